@@ -1,0 +1,46 @@
+-- A list of tests that all hold, in both directions.
+-- Assumes nothing.
+use mathlib.Core.Path.{_≡_, refl}
+use mathlib.Core.Bool.{Bool, true, false, _&&_}
+use mathlib.Core.List.{List, [], _∷_, foldl}
+use Prim.Native.Nat.{ℕ, zero, suc}
+use lib.Dec.{T}
+use lib.Ieee.Fits.{and-i, and-l, and-r}
+use lib.ListN.{getD}
+use Rattle.wire.specs.Tests.{allHold}
+
+-- a test that holds is true, and back
+pub holds-true : (b : Bool) → T b → b ≡ true
+holds-true true t = refl
+holds-true false t = absurd t
+
+pub true-holds : (b : Bool) → b ≡ true → T b
+true-holds b e = rw e tt
+
+-- each test, one by one
+abbrev pub Each : List Bool → Type 0
+Each [] = Unit {0}
+Each (b ∷ bs) = T b × Each bs
+
+first-held : (a : Bool) (bs : List Bool) → T (foldl _&&_ a bs) → T a
+first-held a [] t = t
+first-held a (b ∷ bs) t = and-l a b (first-held (a && b) bs t)
+
+rest-held : (a : Bool) (bs : List Bool) → T (foldl _&&_ a bs) → (k : ℕ) → T (getD bs k true)
+rest-held a [] t k = tt
+rest-held a (b ∷ bs) t zero = and-r a b (first-held (a && b) bs t)
+rest-held a (b ∷ bs) t (suc k) = rest-held (a && b) bs t k
+
+each-held : (a : Bool) (bs : List Bool) → T a → Each bs → T (foldl _&&_ a bs)
+each-held a [] t e = t
+each-held a (b ∷ bs) t e = each-held (a && b) bs (and-i a b t (e .0)) (e .1)
+
+-- all hold, so the one at place k does
+pub holds-at : (bs : List Bool) → T (allHold bs) → (k : ℕ) → T (getD bs k true)
+unfolding allHold
+holds-at bs t k = rest-held true bs t k
+
+-- each holds, so all do
+pub holds-all : (bs : List Bool) → Each bs → T (allHold bs)
+unfolding allHold
+holds-all bs e = each-held true bs tt e

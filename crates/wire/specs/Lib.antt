@@ -1,0 +1,4 @@
+pub mod Words
+pub mod Memory
+pub mod Outcome
+pub mod Tests
