@@ -1,0 +1,4 @@
+pub mod Table
+pub mod Admitted
+pub mod RoundTrip
+pub mod DerivedAdmitted

@@ -1,0 +1,257 @@
+// The 32-byte message record: its reader, its writer, and what its fields are by warning and by road.
+ghost use mathlib.Core.Path.{_≡_};
+ghost use lib.ListN.{length};
+ghost use Rattle.wire.specs.Outcome.{firstFault, outcome, answered};
+ghost use Rattle.wire.specs.Memory.{memory};
+ghost use Rattle.message.specs.Warnings.{rowOf, validityOf, roadTypeOf, directionOf};
+ghost use Rattle.message.specs.Message.{messageOf, encode, admits, derivedFit, messageRead, reading, writeFault};
+use sample::Position;
+use wire::Answer;
+
+// The record's own numbers; sub cause, cause and direction follow from the warning and the road type.
+pub struct Message {
+    pub kind: u8,
+    pub warning: u8,
+    pub quality: u8,
+    pub roadtype: u8,
+    pub since: u8,
+    pub event: u32,
+    pub detection: u32,
+    pub reference: u32,
+    pub position: Position,
+    pub heading: u16,
+    pub validity: u16,
+}
+
+// What reading a record finds: the message, or the number of the first check that fails.
+pub enum Reading {
+    Accepted(Message),
+    Refused(u8),
+}
+
+// What is constant for a warning: for the record, for the sender, and in ticks for the engine.
+pub struct Row {
+    pub cause: u8,
+    pub subcause: u8,
+    pub relevance: u8,
+    pub trafficclass: u8,
+    pub period: u32,
+    pub delay: u32,
+}
+
+const ROWS: [Row; 3] = [
+    Row {
+        cause: 94,
+        subcause: 0,
+        relevance: 4,
+        trafficclass: 1,
+        period: 150,
+        delay: 50,
+    },
+    Row {
+        cause: 94,
+        subcause: 2,
+        relevance: 4,
+        trafficclass: 1,
+        period: 150,
+        delay: 50,
+    },
+    Row {
+        cause: 94,
+        subcause: 3,
+        relevance: 4,
+        trafficclass: 1,
+        period: 600,
+        delay: 150,
+    },
+];
+
+pub fn read(bytes: &[u8]) -> Reading
+    ensures { λ r. ⌜ reading r ≡ messageRead (now (bytes .entry)) ⌝ }
+{
+    if bytes.len() != 32 {
+        return Reading::Refused(13);
+    }
+    let m = fields(bytes);
+    if is_derived(bytes) & m.is_admitted() {
+        Reading::Accepted(m)
+    } else {
+        Reading::Refused(14)
+    }
+}
+
+pub fn write(m: Message, out: &mut [u8]) -> Answer
+    ensures { λ r. ⌜ (answered r ≡ outcome (writeFault m (length (now (out .entry)))) 1) × (now (out .exit) ≡ memory (writeFault m (length (now (out .entry)))) (encode m) (now (out .entry))) ⌝ }
+{
+    if out.len() < 32 {
+        return Answer::Refused(2);
+    }
+    if !m.is_admitted() {
+        return Answer::Refused(14);
+    }
+    let bytes = encoded(m);
+    wire::copy_at(out, 0, &bytes);
+    Answer::Given(1)
+}
+
+// The bytes of a message, whatever its fields.
+pub fn encoded(m: Message) -> [u8; 32]
+    ensures { λ r. ⌜ r ≡ encode m ⌝ }
+{
+    let row = row_of(m.warning);
+    let w = direction_of(m.roadtype);
+    let p = m.position;
+    let e = wire::bytes32(m.event);
+    let d = wire::bytes32(m.detection);
+    let f = wire::bytes32(m.reference);
+    let x = wire::bytes32(wire::unsigned(p.east));
+    let y = wire::bytes32(wire::unsigned(p.north));
+    let h = wire::bytes16(m.heading);
+    let v = wire::bytes16(m.validity);
+    [
+        m.kind,
+        m.warning,
+        row.subcause,
+        row.cause,
+        m.quality,
+        m.roadtype,
+        w,
+        m.since,
+        e[0],
+        e[1],
+        e[2],
+        e[3],
+        d[0],
+        d[1],
+        d[2],
+        d[3],
+        f[0],
+        f[1],
+        f[2],
+        f[3],
+        x[0],
+        x[1],
+        x[2],
+        x[3],
+        y[0],
+        y[1],
+        y[2],
+        y[3],
+        h[0],
+        h[1],
+        v[0],
+        v[1],
+    ]
+}
+
+// The table's row of a warning; zeros for a number that is no warning.
+pub fn row_of(warning: u8) -> Row
+    ensures { λ r. ⌜ r ≡ rowOf warning ⌝ }
+{
+    match warning {
+        1 | 2 | 3 => {
+            let i = (warning - 1) as usize;
+            ROWS[i]
+        }
+        _ => Row {
+            cause: 0,
+            subcause: 0,
+            relevance: 0,
+            trafficclass: 0,
+            period: 0,
+            delay: 0,
+        },
+    }
+}
+
+// How long a message stays valid, in seconds; 0 for a number that is no warning.
+pub fn validity_of(warning: u8, ignition: bool) -> u16
+    ensures { λ r. ⌜ r ≡ validityOf warning ignition ⌝ }
+{
+    match warning {
+        1 => 30,
+        2 => { if ignition { 30 } else { 180 } }
+        3 => 180,
+        _ => 0,
+    }
+}
+
+pub fn road_type_of(road: u8) -> u8
+    ensures { λ r. ⌜ r ≡ roadTypeOf road ⌝ }
+{
+    match road {
+        1 | 3 => 0,
+        2 => 1,
+        4 | 6 => 2,
+        5 => 3,
+        _ => 255,
+    }
+}
+
+fn direction_of(roadtype: u8) -> u8
+    ensures { λ r. ⌜ r ≡ directionOf roadtype ⌝ }
+{
+    match roadtype {
+        1 | 3 => 1,
+        _ => 0,
+    }
+}
+
+impl Message {
+    // Whether each field has a value that refusal 14 lets pass.
+    pub fn is_admitted(self) -> bool
+        ensures { λ r. ⌜ r ≡ admits self ⌝ }
+    {
+        let p = self.position;
+        let on = validity_of(self.warning, true);
+        let off = validity_of(self.warning, false);
+        (1 <= self.kind)
+            & (self.kind <= 3)
+            & (1 <= self.warning)
+            & (self.warning <= 3)
+            & (1 <= self.quality)
+            & (self.quality <= 3)
+            & ((self.roadtype <= 3) | (self.roadtype == 255))
+            & (self.since <= 3)
+            & (1 <= self.event)
+            & (self.event <= 10000000)
+            & (self.reference <= 9999999)
+            & (self.detection <= self.reference)
+            & ((self.kind == 3) | (self.detection == self.reference))
+            & !p.beyond_limit()
+            & (self.heading <= 3601)
+            & ((self.validity == on) | (self.validity == off))
+    }
+}
+
+// Whether sub cause, cause and direction are those of the warning and the road type.
+fn is_derived(s: &[u8]) -> bool
+    requires { ⌜ length (now s) ≡ 32 ⌝ }
+    ensures { λ r. ⌜ r ≡ derivedFit (now (s .entry)) ⌝ }
+{
+    let row = row_of(s[1]);
+    let w = direction_of(s[5]);
+    (s[2] == row.subcause) & (s[3] == row.cause) & (s[6] == w)
+}
+
+fn fields(s: &[u8]) -> Message
+    requires { ⌜ length (now s) ≡ 32 ⌝ }
+    ensures { λ r. ⌜ r ≡ messageOf (now (s .entry)) ⌝ }
+{
+    Message {
+        kind: s[0],
+        warning: s[1],
+        quality: s[4],
+        roadtype: s[5],
+        since: s[7],
+        event: wire::word32(s[8], s[9], s[10], s[11]),
+        detection: wire::word32(s[12], s[13], s[14], s[15]),
+        reference: wire::word32(s[16], s[17], s[18], s[19]),
+        position: Position {
+            east: wire::signed(wire::word32(s[20], s[21], s[22], s[23])),
+            north: wire::signed(wire::word32(s[24], s[25], s[26], s[27])),
+        },
+        heading: wire::word16(s[28], s[29]),
+        validity: wire::word16(s[30], s[31]),
+    }
+}
