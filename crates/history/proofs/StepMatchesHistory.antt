@@ -1,0 +1,125 @@
+-- The two readings are one: each number of the state is a look-back over the history, and a step keeps that.
+-- Assumes nothing.
+use mathlib.Core.Path.{_≡_, refl, sym, ap, _∙_}
+use mathlib.Core.Bool.{Bool, true, false, not, _&&_, _||_, cond}
+use mathlib.Core.List.{List, [], _∷_, _++_, reverseAux}
+use Prim.Native.Nat.{ℕ, suc, _+_, _-_, max, _≤_, _<_}
+use native.Mathlib.Nat.{add-suc}
+use native.Mathlib.Numerals.{add-one}
+use native.Mathlib.Omega.{arith}
+use borrow.Author.Tests.{leb-true, leb-false, lt-ltb, le-ltb}
+use lib.Dec.{leb, ltb, leb·suc-suc}
+use Rattle.sample.specs.declared.Sample.{Sample}
+use Rattle.message.specs.declared.Message.{Message}
+use Rattle.history.specs.declared.Notice.{Notice}
+use Rattle.history.specs.declared.Notice.the-variants.{Nothing, Sent}
+use Rattle.history.specs.declared.Absent.{Absent}
+use Rattle.history.specs.declared.Log.{Log}
+use Rattle.history.specs.declared.State.{State}
+use Rattle.history.specs.declared.Decision.{Decision}
+use Rattle.history.specs.Rules.{Settings, decide, noticed, givenBy}
+use Rattle.history.specs.History.{Tick, Past, Fact, present, never, size, run, during, since, held, offHeld, filterAfter, stationary, parked, idling, braked, belted, ignited, doorOpen, bootOpen, bonnetOpen, conditionA, conditionB, conditionC, conditionD, oneOfAtoD, oneOfEtoH, wasIgnited, messages, standing, events, started, lastCancel, countedFrom, counted, ready, cycleOf, ecallPressed, lowSeverity, highSeverity, highestQuality, viewOf, givenAt, tickOf, after, givenDuring}
+use Rattle.history.specs.State.{fresh, runsAfter, absentAfter, conditionsAt, cycleAfter, taken, qualityFrom, seen, logged, loggedNotice, withLog, step, stateAfter, stepsGive}
+
+-- the log that messages leave, the newest first
+unfoldable pub logOf : List Message → Log
+logOf ms = record { standing = standing ms; started = started ms; counted = counted ms; cancelled = lastCancel ms; events = events ms }
+
+-- the state that a history leaves
+unfoldable pub stateOf : Past → State
+stateOf h = record {
+  taken = size h;
+  filter = filterAfter h;
+  stationary = run stationary h;
+  moving = run (never stationary) h;
+  ignition = wasIgnited h;
+  runs = record {
+    park = run parked h;
+    idle = run idling h;
+    brake = run braked h;
+    beltoff = run (never belted) h;
+    ignitionoff = run (never ignited) h;
+    door = run doorOpen h;
+    boot = run bootOpen h;
+    bonnet = run bonnetOpen h;
+  };
+  first = cycleOf 1 h;
+  second = cycleOf 2 h;
+  absent = record { ecall = run (never ecallPressed) h; low = run (never lowSeverity) h; high = run (never highSeverity) h };
+  log = logOf (messages h);
+}
+
+-- a fresh state is that of no history
+pub fresh-matches : fresh ≡ stateOf []
+unfolding fresh size stateOf logOf cycleOf run during filterAfter wasIgnited messages standing started counted lastCancel events
+fresh-matches = refl
+
+-- the sample is taken
+taken-matches : (x : Sample) (past : Past) → taken (stateOf past) x ≡ stateOf (present x ∷ past)
+unfolding taken runsAfter conditionsAt absentAfter cycleAfter size stateOf logOf cycleOf run during filterAfter stationary held offHeld conditionA conditionB conditionC conditionD oneOfEtoH ready wasIgnited messages
+taken-matches x past = refl
+
+-- the messages are logged
+logged-matches : (n : Notice) (ms : List Message) → loggedNotice (logOf ms) n ≡ logOf (reverseAux (noticed n) ms)
+unfolding loggedNotice logged logOf noticed standing started counted countedFrom lastCancel events
+logged-matches Nothing ms = refl
+logged-matches (Sent m) ms = refl
+
+joined : (a b : Notice) (ms : List Message) → reverseAux (noticed a ++ noticed b) ms ≡ reverseAux (noticed b) (reverseAux (noticed a) ms)
+unfolding noticed
+joined Nothing b ms = refl
+joined (Sent m) b ms = refl
+
+given-matches : (x : Sample) (d : Decision) (past : Past)
+    → withLog (stateOf (present x ∷ past)) (loggedNotice (loggedNotice (stateOf (present x ∷ past) .log) (d .cancel)) (d .report))
+    ≡ stateOf (record { sample = x; given = givenBy d } ∷ past)
+unfolding withLog givenBy stateOf size filterAfter run during cycleOf stationary held offHeld conditionA conditionB conditionC conditionD oneOfEtoH ready wasIgnited messages
+given-matches x d past =
+    rw (logged-matches (d .cancel) (messages past), logged-matches (d .report) (reverseAux (noticed (d .cancel)) (messages past)), joined (d .cancel) (d .report) (messages past))
+
+-- ---- a happening from tick j on, by the run of ticks without one
+
+later : (j n r : ℕ) → ltb (j + (r + 1)) (n + 1) ≡ ltb (j + r) n
+later j n r = rw (add-one r, add-one n, add-suc) (leb·suc-suc (suc (j + r)) n)
+
+since-step : (b c : Bool) (j n r : ℕ) → leb j n ≡ c → (c && b) || ltb (j + r) n ≡ ltb (j + cond (not b) (r + 1) 0) (n + 1)
+since-step true true j n r e = let h = leb-true j n e in sym (lt-ltb (j + 0) (n + 1) (omega arith))
+since-step true false j n r e =
+    let h = leb-false j n e in
+    le-ltb (j + r) n (omega arith) ∙ sym (le-ltb (j + 0) (n + 1) (omega arith))
+since-step false true j n r e = sym (later j n r)
+since-step false false j n r e = sym (later j n r)
+
+pub since-run : (j : ℕ) (p : Fact) (h : Past) → since j p h ≡ ltb (j + run (never p) h) (size h)
+unfolding since run size
+since-run j p [] = sym (le-ltb (j + 0) 0 (omega arith))
+since-run j p (t ∷ past) =
+    rw (since-run j p past) (since-step (p t past) (leb j (size past)) j (size past) (run (never p) past) refl)
+
+quality-matches : (j : ℕ) (h : Past) → highestQuality j h ≡ qualityFrom j (size h) (stateOf h .absent)
+unfolding highestQuality qualityFrom stateOf
+quality-matches j h = rw (since-run j highSeverity h, since-run j lowSeverity h, since-run j ecallPressed h)
+
+-- ---- both readings look at the same
+
+view-matches : (x : Sample) (past : Past) → seen (stateOf past) (stateOf (present x ∷ past)) x ≡ viewOf x past
+unfolding seen conditionsAt viewOf stateOf logOf countedFrom conditionA conditionB conditionC conditionD oneOfAtoD oneOfEtoH held offHeld wasIgnited
+view-matches x past =
+    rw (quality-matches (countedFrom (size past) (messages past)) (present x ∷ past), quality-matches (counted (messages past)) (present x ∷ past))
+
+-- one step of the state of a history gives what the history reading gives, and leaves the state of the history with that tick
+pub step-matches : (S : Settings) (x : Sample) (past : Past)
+    → (step S (stateOf past) x .state ≡ stateOf (tickOf S x past ∷ past)) × (givenBy (step S (stateOf past) x .decision) ≡ givenAt S x past)
+unfolding step givenAt tickOf
+step-matches S x past =
+    rw (taken-matches x past, view-matches x past) (given-matches x (decide S (viewOf x past)) past, refl)
+
+-- and so do the steps of any list of samples
+pub steps-match : (S : Settings) (past : Past) (xs : List Sample)
+    → (stateAfter S (stateOf past) xs ≡ stateOf (after S past xs)) × (stepsGive S (stateOf past) xs ≡ givenDuring S past xs)
+unfolding stateAfter stepsGive after givenDuring
+steps-match S past [] = (refl, refl)
+steps-match S past (x ∷ xs) =
+    let m = step-matches S x past in
+    let r = steps-match S (tickOf S x past ∷ past) xs in
+    rw (m .0, m .1) (r .0, ap (λ (l : List Message). givenAt S x past ++ l) (r .1))
