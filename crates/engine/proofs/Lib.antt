@@ -1,0 +1,10 @@
+pub mod StateTaken
+pub mod StateSeen
+pub mod Squares
+pub mod Decided
+pub mod StepFits
+pub mod SamplesInTurn
+pub mod Records
+pub mod Running
+pub mod CallFaults
+pub mod DemandHolds

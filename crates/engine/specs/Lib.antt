@@ -1,0 +1,3 @@
+pub mod Fits
+pub mod Calls
+pub mod Demand
