@@ -1,0 +1,5 @@
+pub mod Decimal
+pub mod Placed
+pub mod LineLengths
+pub mod LineWritten
+pub mod Examples
