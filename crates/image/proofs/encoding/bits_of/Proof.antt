@@ -1,0 +1,16 @@
+use Rattle.image.proofs.FilterBits.{nan-bits, no-nan}
+use borrow.Author.Needs.{needs}
+use Rattle.image.proofs.encoding.bits_of.Statement.{statement}
+use Rattle.image.proofs.encoding.bits_of.Tie as tie
+
+float-to-bits-result : tie.Need-float-to-bits-result
+float-to-bits-result c = no-nan _ (c .if1 .left)
+
+returns : tie.Need-returns
+returns c = nan-bits _ (c .if1 .taken)
+
+returns-2 : tie.Need-returns-2
+returns-2 c = search needs
+
+pub bits-of-spec : {M : Type 1} → statement M
+bits-of-spec = tie.close (tie.spec float-to-bits-result returns returns-2)
