@@ -1,0 +1,5 @@
+pub mod Numbers
+pub mod Counts
+pub mod ImageCalls
+pub mod ImageDemandHolds
+pub mod FreshImages

@@ -1,0 +1,62 @@
+use mathlib.Core.Path.{refl}
+use native.Mathlib.Omega.{arith}
+use Rattle.image.proofs.Loaded.{accepted-image, refused-image}
+use Rattle.capi.proofs.Counts.{block-count}
+use Rattle.capi.proofs.ImageCalls.{image-refused, block-length, block-room, block-image, block-meets}
+use borrow.Author.Needs.{needs}
+use Rattle.capi.proofs.yoldrim_block.Statement.{statement}
+use Rattle.capi.proofs.yoldrim_block.Tie as tie
+
+returns : tie.Need-returns
+returns c = image-refused _ _ _ _ 1 _ (block-length _ _ _ (c .if1 .taken)) (λ z. omega arith) refl
+
+returns-2 : tie.Need-returns-2
+returns-2 c = image-refused _ _ _ _ 2 _ (block-room _ _ _ (c .before .if1 .left) (c .if2 .taken)) (λ z. omega arith) refl
+
+load-requires : tie.Need-load-requires
+load-requires c κs = search needs
+
+enum-told : tie.Need-enum-told
+enum-told c = search needs
+
+enum-known-loading : tie.Need-enum-known-loading
+enum-known-loading c = search needs
+
+block-requires : tie.Need-block-requires
+block-requires c κs = search needs
+
+finish-requires : tie.Need-finish-requires
+finish-requires c κs = block-count _ _ _ _ (c .before .before .before .block .ensures .answer)
+
+same-length : tie.Need-same-length
+same-length c = search needs
+
+returns-3 : tie.Need-returns-3
+returns-3 c = image-refused _ _ _ _ 21 _ (block-image _ _ _ (c .before .before .before .before .before .if1 .left) (c .before .before .before .before .if2 .left) (refused-image _ _ (c .before .before .load .ensures) _ (c .enum-told .given .1))) (λ z. omega arith) refl
+
+same-length-2 : tie.Need-same-length-2
+same-length-2 c = search needs
+
+same-length-3 : tie.Need-same-length-3
+same-length-3 c = search needs
+
+returns-4 : tie.Need-returns-4
+returns-4 c = let a = accepted-image _ _ (c .before .before .before .before .before .before .before .before .before .before .before .load .ensures) _ (c .before .before .before .before .before .before .before .before .before .loading .given .1) in
+    block-meets _ _ _ (a .0) _ (a .1) _ _ _ _ (record { sfits = c .before .before .finish .ok }) (c .before .before .finish .ensures) (c .before .before .before .before .before .before .block .ensures)
+
+pub yoldrim-block-spec : {M : Type 1} → statement M
+yoldrim-block-spec =
+    tie.close
+    (tie.spec
+    returns
+    returns-2
+    load-requires
+    enum-told
+    enum-known-loading
+    block-requires
+    finish-requires
+    same-length
+    returns-3
+    same-length-2
+    same-length-3
+    returns-4)

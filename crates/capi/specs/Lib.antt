@@ -1,0 +1,2 @@
+pub mod Imaged
+pub mod ImageDemand
