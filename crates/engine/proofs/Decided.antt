@@ -1,10 +1,11 @@
 -- What the rules' functions need of numbers: the table's ticks are few, and an admitted message's place is within the limits.
 -- Assumes nothing.
-use mathlib.Core.Bool.{Bool, true, false, not, _||_}
+use mathlib.Core.Bool.{not}
 use Prim.Native.Nat.{ℕ, zero, suc, _≤_}
 use native.Mathlib.Omega.{arith}
 use lib.Dec.{T}
 use lib.IntN.{natAbs}
+use Rattle.wire.proofs.Tests.{neither}
 use Rattle.sample.specs.declared.Position.{Position}
 use Rattle.sample.specs.Sample.{outside, beyond}
 use Rattle.message.specs.Warnings.{byWarning, rowOf}
@@ -24,10 +25,6 @@ delay-small w = by-warning-below 50 50 150 150 w (omega arith) (omega arith) (om
 pub period-small : (w : ℕ) → rowOf w .period ≤ 600
 unfolding rowOf
 period-small w = by-warning-below 150 150 600 600 w (omega arith) (omega arith) (omega arith)
-
-neither : (a b : Bool) → T (not (a || b)) → T (not a) × T (not b)
-neither true b t = absurd t
-neither false b t = (tt, t)
 
 -- both coordinates of a position within the limits
 pub coordinates-small : (p : Position) → T (not (beyond p)) → (natAbs (p .east) ≤ 1000000) × (natAbs (p .north) ≤ 1000000)

@@ -56,8 +56,8 @@ standing-event (m ∷ ms) p o h = go (o .0) h
 
 -- ---- the rules keep the order
 
--- a test chooses between two decisions that both have P
-pub either : (P : Decision → Type 0) (b : Bool) {x y : Decision} → P x → P y → P (cond b x y)
+-- a test chooses between two things that both have P
+pub either : {A : Type 0} (P : A → Type 0) (b : Bool) {x y : A} → P x → P y → P (cond b x y)
 either P true p q = p
 either P false p q = q
 

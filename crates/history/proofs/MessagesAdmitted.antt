@@ -24,6 +24,7 @@ use Rattle.history.specs.declared.View.{View}
 use Rattle.history.specs.declared.Decision.{Decision}
 use Rattle.history.specs.Rules.{Settings, new, update, rank, standingRank, triggers, overrules, highestOf, highest, reportOf, cancelOf, cancelStanding, cancelled, updateDue, silent, raise, keep, decide, noticed, givenBy}
 use Rattle.history.specs.History.{Past, present, size, filterAfter, messages, standing, events, started, lastCancel, countedFrom, counted, viewOf, givenAt, tickOf, after, givenDuring}
+use Rattle.history.proofs.GivenInOrder.{either}
 use Rattle.history.proofs.Reached.{tickWith, IfSent, LastReport, Reached, reached-none, quality-at-most-3, still-counted, given-aside, crash-counted}
 use Rattle.history.proofs.ReportAdmitted.{report-admitted, cancel-admitted}
 
@@ -38,10 +39,6 @@ AllAdmitted [] = Unit {0}
 AllAdmitted (m ∷ ms) = T (admits m) × AllAdmitted ms
 
 -- ---- one tick
-
-choice : {A : Type 0} (P : A → Type 0) (b : Bool) {x y : A} → P x → P y → P (cond b x y)
-choice P true p q = p
-choice P false p q = q
 
 module _ (x : Sample) (past : Past) (r : Reached past) (f : Fields x) (few : size past < 10000000) where
   abbrev ms : List Message
@@ -89,7 +86,7 @@ module _ (x : Sample) (past : Past) (r : Reached past) (f : Fields x) (few : siz
 
     cancel-by-now : lastCancel (cancelOf (size past) m ∷ ms) ≤ size past
     unfolding lastCancel cancelOf
-    cancel-by-now = choice (λ (k : ℕ). k ≤ size past) (eqb (m .warning) 3) (omega arith) (r .cancelled-by-now)
+    cancel-by-now = either (λ (k : ℕ). k ≤ size past) (eqb (m .warning) 3) (omega arith) (r .cancelled-by-now)
 
     -- "2. The standing one is cancelled"
     cancel-fits : Fits (record { cancel = Sent (cancelOf (size past) m); report = Nothing })
@@ -143,7 +140,7 @@ module _ (x : Sample) (past : Past) (r : Reached past) (f : Fields x) (few : siz
   keep-fits : (n : Notice) → IfSent (LastReport past) n → Fits (keep v n)
   unfolding keep viewOf
   keep-fits Nothing s = silent-fits
-  keep-fits (Sent m) s = choice Fits (cancelled v m) (cancel-fits m s) (choice Fits (updateDue v m) (update-fits m s) silent-fits)
+  keep-fits (Sent m) s = either Fits (cancelled v m) (cancel-fits m s) (either Fits (updateDue v m) (update-fits m s) silent-fits)
 
   module _ (warning : ℕ) (low : 1 ≤ warning) (high : warning ≤ 3) (happened : warning ≡ 3 → 1 ≤ v .recent) where
     abbrev aNew : Message

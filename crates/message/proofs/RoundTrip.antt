@@ -17,7 +17,7 @@ use Rattle.wire.specs.Outcome.{firstFault, outcome, accepted}
 use Rattle.wire.specs.Tests.{allHold}
 use Rattle.wire.proofs.Words.{little-bytesOf, bytesOf-word, word-below, bytesAt-all}
 use Rattle.wire.proofs.FirstFault.{accepted-clear, clear-first}
-use Rattle.wire.proofs.Tests.{holds-at, holds-true, true-holds}
+use Rattle.wire.proofs.Tests.{holds-at, holds-true, true-holds, neither}
 use lib.Ieee.Fits.{and-l, and-r}
 use Rattle.wire.proofs.TwosComplement.{signed-again}
 use Rattle.sample.specs.Sample.{outside, beyond}
@@ -39,11 +39,6 @@ coordinate-again : (z : ℤ) → T (not (outside z)) → toZ w32 (little (bytesO
 coordinate-again z t =
     let f = inside-fits z t in
     ap (toZ w32) (little-bytesOf 4 (ofZ w32 z) (fits-ofZ {w = w32} {z = z} f .fits)) ∙ signed-again z f
-
-neither : (a b : Bool) → T (not (a || b)) → T (not a) × T (not b)
-neither false false t = (tt, tt)
-neither false true t = absurd t
-neither true b t = absurd t
 
 position-again : (p : Position) → T (not (beyond p))
     → _≡_ {A = Position} (record { east = toZ w32 (little (bytesOf 4 (ofZ w32 (p .east)))); north = toZ w32 (little (bytesOf 4 (ofZ w32 (p .north)))) }) p

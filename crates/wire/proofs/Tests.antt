@@ -1,7 +1,7 @@
 -- A list of tests that all hold, in both directions.
 -- Assumes nothing.
 use mathlib.Core.Path.{_≡_, refl}
-use mathlib.Core.Bool.{Bool, true, false, _&&_}
+use mathlib.Core.Bool.{Bool, true, false, not, _&&_, _||_}
 use mathlib.Core.List.{List, [], _∷_, foldl}
 use Prim.Native.Nat.{ℕ, zero, suc}
 use lib.Dec.{T}
@@ -16,6 +16,11 @@ holds-true false t = absurd t
 
 pub true-holds : (b : Bool) → b ≡ true → T b
 true-holds b e = rw e tt
+
+-- neither of two tests holds
+pub neither : (a b : Bool) → T (not (a || b)) → T (not a) × T (not b)
+neither true b t = absurd t
+neither false b t = (tt, t)
 
 -- each test, one by one
 abbrev pub Each : List Bool → Type 0
