@@ -3,8 +3,11 @@ pub mod StateSeen
 pub mod Squares
 pub mod Decided
 pub mod StepFits
+pub mod SampleAt
+pub mod SteadyStep
 pub mod SamplesInTurn
 pub mod Records
 pub mod Running
+pub mod SteadyStretch
 pub mod CallFaults
 pub mod DemandHolds

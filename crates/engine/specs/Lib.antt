@@ -1,3 +1,4 @@
 pub mod Fits
+pub mod Steady
 pub mod Calls
 pub mod Demand

@@ -5,6 +5,7 @@ ghost use mathlib.Core.Bool.{cond, _||_};
 ghost use Rattle.history.specs.Rules.{rank, standingRank};
 ghost use Rattle.history.specs.State.{goOn, mark, switchedOff, runsAfter, absentAfter, conditionsAt, cycleAfter, taken};
 ghost use Rattle.engine.specs.Fits.{RunsFit, AbsentFit, CanStep};
+use crate::steady::is_still;
 use history::Absent;
 use history::Conditions;
 use history::Cycle;
@@ -114,7 +115,7 @@ pub(crate) fn taken(s: State, x: Sample) -> State
     let w = x.switches_on();
     let f0 = s.filter;
     let f = f0.next(x.speed);
-    let still = (x.speed != 16383) & f.at_most_8();
+    let still = is_still(f, x.speed);
     let r0 = s.runs;
     let runs = runs_after(r0, x);
     let now = conditions_at(s.taken, runs);
