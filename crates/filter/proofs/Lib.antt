@@ -5,6 +5,7 @@ pub mod HundredThenZeros
 pub mod NineThenEights
 pub mod NextLaws
 pub mod OwnedFilter
+pub mod FloatBits
 -- What they are proved with
 mod BlendOutcome
 mod RangeUnits

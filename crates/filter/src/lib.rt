@@ -1,9 +1,13 @@
 // The speed filter of document 01, "Standing still": it smooths the readings of the speed in cm/s.
 ghost use mathlib.Core.Path.{_≡_};
-ghost use Rattle.filter.specs.Filter.{next, atMost8, inRange};
+ghost use lib.Ieee.{binary32, toBits};
+ghost use Rattle.filter.specs.Filter.{asF32, blend, next, atMost8, inRange};
 
 // How a sample says that it has no reading of the speed.
 const NO_READING: u16 = 16383;
+
+// The bits of the value at which readings of 0 let the filter rest: twice the smallest number.
+const REST: u32 = 2;
 
 // Without a reading yet, or running with its value.
 pub enum Filter {
@@ -19,10 +23,9 @@ impl Filter {
         if reading == NO_READING {
             return self;
         }
-        let x = reading as f32;
         match self {
-            Filter::Empty => Filter::Running(x),
-            Filter::Running(f) => Filter::Running(f + (x - f) * 0.25),
+            Filter::Empty => Filter::Running(reading as f32),
+            Filter::Running(f) => Filter::Running(blended(f, reading)),
         }
     }
 
@@ -45,4 +48,24 @@ impl Filter {
             Filter::Running(f) => (0.0 <= f) & (f <= 16382.0),
         }
     }
+}
+
+// The value moved by a reading. At rest it does not move, and is not computed: a processor takes long over so small a number.
+fn blended(f: f32, reading: u16) -> f32
+    ensures { λ r. ⌜ r ≡ blend f (asF32 reading) ⌝ }
+{
+    if reading == 0 {
+        if bits_of(f) == REST {
+            return f;
+        }
+    }
+    let x = reading as f32;
+    f + (x - f) * 0.25
+}
+
+// The bits of a value. A NaN, which alone differs from itself, gets one pattern for all.
+pub fn bits_of(f: f32) -> u32
+    ensures { λ r. ⌜ r ≡ toBits binary32 f ⌝ }
+{
+    if f != f { 2143289344 } else { f32::to_bits(f) }
 }

@@ -1,31 +1,13 @@
 -- The bits of a filter's value, with a NaN's apart: a program reads and makes the bits of other values only.
 -- Assumes nothing.
-use mathlib.Core.Path.{_≡_, refl, sym, _∙_}
+use mathlib.Core.Path.{_≡_, refl}
 use mathlib.Core.Bool.{Bool, true, false, not, _&&_}
 use Prim.Native.Nat.{ℕ, _/_, _%_}
-use native.Mathlib.Omega.{arith}
 use borrow.Author.Tests.{eq-eqb, ne-eqb}
 use lib.Dec.{T, eqb}
-use lib.Ieee.{Float, nan, inf, fin, binary32, toBits, ofBits, nanBits, isNan, ne}
-use lib.Ieee.Compare.{differs-from-itself, nan-differs}
-use Rattle.wire.proofs.Tests.{true-holds}
+use lib.Ieee.{binary32, ofBits, nanBits}
 use Rattle.filter.specs.declared.Filter.the-variants.{Empty, Running}
 use Rattle.image.specs.Image.{filterIn}
-
--- a value that differs from itself is a NaN, and has one pattern for all
-pub nan-bits : (f : Float) → ne f f ≡ true → 2143289344 ≡ toBits binary32 f
-unfolding toBits
-nan-bits f e = rw (differs-from-itself f (true-holds _ e)) refl
-
--- one that does not is none
-pub no-nan : (f : Float) → ne f f ≡ false → T (not (isNan f))
-unfolding isNan
-no-nan nan e =
-    let z : true ≡ false = sym nan-differs ∙ e in
-    let y : _≡_ {A = ℕ} 0 1 = cc in
-    absurd (omega arith)
-no-nan (inf s) e = tt
-no-nan (fin s m e) f = tt
 
 abbrev nanTest : ℕ → Bool
 nanTest bits = eqb (bits % 2147483648 / 8388608) 255 && not (eqb (bits % 8388608) 0)

