@@ -1,8 +1,6 @@
 // The engine's state, each part from its place in an image.
 ghost use mathlib.Core.Path.{_≡_};
-ghost use Prim.Native.Nat.{_+_, _≤_};
 ghost use lib.ListN.{length};
-ghost use Rattle.wire.specs.Words.{word};
 ghost use Rattle.image.specs.Image.{filterIn, standingIn, cycleIn, runsIn, firstIn, secondIn, absentIn, logIn, stateIn, sameBytes};
 use filter::Filter;
 use history::Absent;
@@ -12,16 +10,6 @@ use history::Notice;
 use history::Runs;
 use history::State;
 use message::Reading;
-
-fn word_at(image: &[u8], at: usize) -> u32
-    requires { ⌜ at + 4 ≤ length (now image) ⌝ }
-    ensures { λ r. ⌜ r ≡ word 4 (now (image .entry)) at ⌝ }
-{
-    let b = at + 1;
-    let c = b + 1;
-    let d = c + 1;
-    wire::word32(image[at], image[b], image[c], image[d])
-}
 
 // The filter by its tag and bits. The bits of a NaN are an exponent of ones and digits that are not 0.
 fn filter_in(tag: u8, bits: u32) -> Filter
@@ -67,14 +55,14 @@ fn runs_in(s: &[u8]) -> Runs
     ensures { λ r. ⌜ r ≡ runsIn (now (s .entry)) ⌝ }
 {
     Runs {
-        park: word_at(s, 16),
-        idle: word_at(s, 20),
-        brake: word_at(s, 24),
-        beltoff: word_at(s, 28),
-        ignitionoff: word_at(s, 32),
-        door: word_at(s, 36),
-        boot: word_at(s, 40),
-        bonnet: word_at(s, 44),
+        park: wire::word32(s, 16),
+        idle: wire::word32(s, 20),
+        brake: wire::word32(s, 24),
+        beltoff: wire::word32(s, 28),
+        ignitionoff: wire::word32(s, 32),
+        door: wire::word32(s, 36),
+        boot: wire::word32(s, 40),
+        bonnet: wire::word32(s, 44),
     }
 }
 
@@ -82,14 +70,14 @@ fn first_in(s: &[u8]) -> Cycle
     requires { ⌜ length (now s) ≡ 129 ⌝ }
     ensures { λ r. ⌜ r ≡ firstIn (now (s .entry)) ⌝ }
 {
-    cycle_in(word_at(s, 48), s[86], s[87], s[88], s[89], s[90])
+    cycle_in(wire::word32(s, 48), s[86], s[87], s[88], s[89], s[90])
 }
 
 fn second_in(s: &[u8]) -> Cycle
     requires { ⌜ length (now s) ≡ 129 ⌝ }
     ensures { λ r. ⌜ r ≡ secondIn (now (s .entry)) ⌝ }
 {
-    cycle_in(word_at(s, 52), s[91], s[92], s[93], s[94], s[95])
+    cycle_in(wire::word32(s, 52), s[91], s[92], s[93], s[94], s[95])
 }
 
 fn absent_in(s: &[u8]) -> Absent
@@ -97,9 +85,9 @@ fn absent_in(s: &[u8]) -> Absent
     ensures { λ r. ⌜ r ≡ absentIn (now (s .entry)) ⌝ }
 {
     Absent {
-        ecall: word_at(s, 56),
-        low: word_at(s, 60),
-        high: word_at(s, 64),
+        ecall: wire::word32(s, 56),
+        low: wire::word32(s, 60),
+        high: wire::word32(s, 64),
     }
 }
 
@@ -109,10 +97,10 @@ fn log_in(s: &[u8]) -> Log
 {
     Log {
         standing: standing_in(s[96], &s[97..]),
-        started: word_at(s, 68),
-        counted: word_at(s, 72),
-        cancelled: word_at(s, 76),
-        events: word_at(s, 80),
+        started: wire::word32(s, 68),
+        counted: wire::word32(s, 72),
+        cancelled: wire::word32(s, 76),
+        events: wire::word32(s, 80),
     }
 }
 
@@ -121,10 +109,10 @@ pub(crate) fn state_in(s: &[u8]) -> State
     ensures { λ r. ⌜ r ≡ stateIn (now (s .entry)) ⌝ }
 {
     State {
-        taken: word_at(s, 0),
-        filter: filter_in(s[84], word_at(s, 4)),
-        stationary: word_at(s, 8),
-        moving: word_at(s, 12),
+        taken: wire::word32(s, 0),
+        filter: filter_in(s[84], wire::word32(s, 4)),
+        stationary: wire::word32(s, 8),
+        moving: wire::word32(s, 12),
         ignition: s[85] == 1,
         runs: runs_in(s),
         first: first_in(s),

@@ -244,14 +244,14 @@ fn fields(s: &[u8]) -> Message
         quality: s[4],
         roadtype: s[5],
         since: s[7],
-        event: wire::word32(s[8], s[9], s[10], s[11]),
-        detection: wire::word32(s[12], s[13], s[14], s[15]),
-        reference: wire::word32(s[16], s[17], s[18], s[19]),
+        event: wire::word32(s, 8),
+        detection: wire::word32(s, 12),
+        reference: wire::word32(s, 16),
         position: Position {
-            east: wire::signed(wire::word32(s[20], s[21], s[22], s[23])),
-            north: wire::signed(wire::word32(s[24], s[25], s[26], s[27])),
+            east: wire::signed(wire::word32(s, 20)),
+            north: wire::signed(wire::word32(s, 24)),
         },
-        heading: wire::word16(s[28], s[29]),
-        validity: wire::word16(s[30], s[31]),
+        heading: wire::word16(s, 28),
+        validity: wire::word16(s, 30),
     }
 }

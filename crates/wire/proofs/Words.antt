@@ -61,3 +61,21 @@ bytesAt-part (suc k) s p h =
 -- all the bytes
 pub bytesAt-all : (s : List ℕ) (n : ℕ) → length s ≡ n → bytesAt n s 0 ≡ s
 bytesAt-all s n h = bytesAt-part n s 0 (omega arith) ∙ take-all n s (omega arith)
+
+-- the number at a place, from its bytes one by one
+pub word16-made : (s : List ℕ) (p a b : ℕ) → a ≡ getD s (p + 0) 0 → b ≡ getD s (p + 1) 0 → a + 256 * b ≡ word 2 s p
+unfolding little bytesAt
+word16-made s p a b e f =
+    let z : p + 0 ≡ p = omega arith in
+    let g : a ≡ getD s p 0 = rw z at e in
+    omega arith
+
+pub word32-made : (s : List ℕ) (p a b c d : ℕ) → a ≡ getD s (p + 0) 0 → b ≡ getD s (p + 1) 0 → c ≡ getD s (p + 2) 0 → d ≡ getD s (p + 3) 0
+    → a + 256 * b + 65536 * c + 16777216 * d ≡ word 4 s p
+unfolding little bytesAt
+word32-made s p a b c d e f g h =
+    let z : p + 0 ≡ p = omega arith in
+    let two : p + 1 + 1 ≡ p + 2 = omega arith in
+    let three : p + 2 + 1 ≡ p + 3 = omega arith in
+    let k : a ≡ getD s p 0 = rw z at e in
+    rw (two, three) (omega arith)

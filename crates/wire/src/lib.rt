@@ -1,9 +1,10 @@
 // What every record shares: a call's answer, little-endian words, signed numbers, and copying into lent memory.
 ghost use mathlib.Core.Path.{_≡_};
-ghost use mathlib.Core.List.{[], _∷_};
+ghost use Prim.Native.Nat.{_+_};
+ghost use lib.ListN.{getD};
 ghost use mir.Syntax.{w32};
 ghost use mir.Val.{toZ, ofZ};
-ghost use Rattle.wire.specs.Words.{little, bytesOf};
+ghost use Rattle.wire.specs.Words.{bytesOf, word};
 ghost use Rattle.wire.specs.Memory.{splice};
 
 // What a call that writes records answers: how many it wrote, or why it wrote none.
@@ -12,16 +13,36 @@ pub enum Answer {
     Refused(u8),
 }
 
-pub fn word16(a: u8, b: u8) -> u16
-    ensures { λ r. ⌜ r ≡ little (a ∷ b ∷ []) ⌝ }
+// The number in 2 bytes from place `at` on. Bytes beyond the end count as 0.
+pub fn word16(bytes: &[u8], at: usize) -> u16
+    ensures { λ r. ⌜ r ≡ word 2 (now (bytes .entry)) at ⌝ }
 {
+    let a = byte(bytes, at, 0);
+    let b = byte(bytes, at, 1);
     a as u16 + 256 * (b as u16)
 }
 
-pub fn word32(a: u8, b: u8, c: u8, d: u8) -> u32
-    ensures { λ r. ⌜ r ≡ little (a ∷ b ∷ c ∷ d ∷ []) ⌝ }
+// The number in 4 bytes from place `at` on. Bytes beyond the end count as 0.
+pub fn word32(bytes: &[u8], at: usize) -> u32
+    ensures { λ r. ⌜ r ≡ word 4 (now (bytes .entry)) at ⌝ }
 {
+    let a = byte(bytes, at, 0);
+    let b = byte(bytes, at, 1);
+    let c = byte(bytes, at, 2);
+    let d = byte(bytes, at, 3);
     a as u32 + 256 * (b as u32) + 65536 * (c as u32) + 16777216 * (d as u32)
+}
+
+// The byte `k` places behind place `at`, 0 beyond the end.
+fn byte(bytes: &[u8], at: usize, k: usize) -> u8
+    ensures { λ r. ⌜ r ≡ getD (now (bytes .entry)) (at + k) 0 ⌝ }
+{
+    if at < bytes.len() {
+        if k < bytes.len() - at {
+            return bytes[at + k];
+        }
+    }
+    0
 }
 
 pub fn bytes16(n: u16) -> [u8; 2]

@@ -5,7 +5,7 @@ use lib.IntN.{ℤ}
 use lib.ListN.{getD}
 use mir.Syntax.{w32}
 use mir.Val.{toZ}
-use Rattle.wire.specs.Words.{bytesAt, word}
+use Rattle.wire.specs.Words.{word}
 use Rattle.wire.proofs.TwosComplement.{signed-again}
 use Rattle.message.specs.Message.{messageOf}
 use Rattle.message.specs.declared.Message.{Message}
@@ -49,62 +49,14 @@ shared-slice-read-t9 c = search needs
 shared-slice-read-t11 : tie.Need-shared-slice-read-t11
 shared-slice-read-t11 c = search needs
 
-shared-slice-read-word32 : tie.Need-shared-slice-read-word32
-shared-slice-read-word32 c = search needs
-
-shared-slice-read-word32-2 : tie.Need-shared-slice-read-word32-2
-shared-slice-read-word32-2 c = search needs
-
-shared-slice-read-word32-3 : tie.Need-shared-slice-read-word32-3
-shared-slice-read-word32-3 c = search needs
-
-shared-slice-read-word32-4 : tie.Need-shared-slice-read-word32-4
-shared-slice-read-word32-4 c = search needs
-
 word32-requires : tie.Need-word32-requires
 word32-requires c κs = search needs
-
-shared-slice-read-word32-5 : tie.Need-shared-slice-read-word32-5
-shared-slice-read-word32-5 c = search needs
-
-shared-slice-read-word32-6 : tie.Need-shared-slice-read-word32-6
-shared-slice-read-word32-6 c = search needs
-
-shared-slice-read-word32-7 : tie.Need-shared-slice-read-word32-7
-shared-slice-read-word32-7 c = search needs
-
-shared-slice-read-word32-8 : tie.Need-shared-slice-read-word32-8
-shared-slice-read-word32-8 c = search needs
 
 word32-requires-2 : tie.Need-word32-requires-2
 word32-requires-2 c κs = search needs
 
-shared-slice-read-word32-9 : tie.Need-shared-slice-read-word32-9
-shared-slice-read-word32-9 c = search needs
-
-shared-slice-read-word32-10 : tie.Need-shared-slice-read-word32-10
-shared-slice-read-word32-10 c = search needs
-
-shared-slice-read-word32-11 : tie.Need-shared-slice-read-word32-11
-shared-slice-read-word32-11 c = search needs
-
-shared-slice-read-word32-12 : tie.Need-shared-slice-read-word32-12
-shared-slice-read-word32-12 c = search needs
-
 word32-requires-3 : tie.Need-word32-requires-3
 word32-requires-3 c κs = search needs
-
-shared-slice-read-word32-13 : tie.Need-shared-slice-read-word32-13
-shared-slice-read-word32-13 c = search needs
-
-shared-slice-read-word32-14 : tie.Need-shared-slice-read-word32-14
-shared-slice-read-word32-14 c = search needs
-
-shared-slice-read-word32-15 : tie.Need-shared-slice-read-word32-15
-shared-slice-read-word32-15 c = search needs
-
-shared-slice-read-word32-16 : tie.Need-shared-slice-read-word32-16
-shared-slice-read-word32-16 c = search needs
 
 word32-requires-4 : tie.Need-word32-requires-4
 word32-requires-4 c κs = search needs
@@ -112,46 +64,20 @@ word32-requires-4 c κs = search needs
 signed-requires : tie.Need-signed-requires
 signed-requires c κs = search needs
 
-shared-slice-read-word32-17 : tie.Need-shared-slice-read-word32-17
-shared-slice-read-word32-17 c = search needs
-
-shared-slice-read-word32-18 : tie.Need-shared-slice-read-word32-18
-shared-slice-read-word32-18 c = search needs
-
-shared-slice-read-word32-19 : tie.Need-shared-slice-read-word32-19
-shared-slice-read-word32-19 c = search needs
-
-shared-slice-read-word32-20 : tie.Need-shared-slice-read-word32-20
-shared-slice-read-word32-20 c = search needs
-
 word32-requires-5 : tie.Need-word32-requires-5
 word32-requires-5 c κs = search needs
 
 signed-requires-2 : tie.Need-signed-requires-2
 signed-requires-2 c κs = search needs
 
-shared-slice-read-word16 : tie.Need-shared-slice-read-word16
-shared-slice-read-word16 c = search needs
-
-shared-slice-read-word16-2 : tie.Need-shared-slice-read-word16-2
-shared-slice-read-word16-2 c = search needs
-
 word16-requires : tie.Need-word16-requires
 word16-requires c κs = search needs
-
-shared-slice-read-word16-3 : tie.Need-shared-slice-read-word16-3
-shared-slice-read-word16-3 c = search needs
-
-shared-slice-read-word16-4 : tie.Need-shared-slice-read-word16-4
-shared-slice-read-word16-4 c = search needs
 
 word16-requires-2 : tie.Need-word16-requires-2
 word16-requires-2 c κs = search needs
 
 returns : tie.Need-returns
-unfolding bytesAt
-returns c = rw (signed-again (c .before .before .before .before .before .before .before .before .before .before .before .before .signed .result) (record { sfits = c .before .before .before .before .before .before .before .before .before .before .before .before .signed .ok }), signed-again (c .before .before .before .before .before .before .signed2 .result) (record { sfits = c .before .before .before .before .before .before .signed2 .ok }))
-    (fields-made _ _ _ _ _ _ _ _ _ _ (c .before .before .before .before .before .before .before .before .before .before .before .before .before .before .before .before .before .before .before .before .before .before .before .before .before .before .before .before .word32 .ensures) (c .before .before .before .before .before .before .before .before .before .before .before .before .before .before .before .before .before .before .before .before .before .before .before .word322 .ensures) (c .before .before .before .before .before .before .before .before .before .before .before .before .before .before .before .before .before .before .word323 .ensures) (c .before .before .before .before .before .before .before .before .before .before .before .before .before .word324 .ensures) (c .before .before .before .before .before .before .before .before .before .before .before .before .signed .ensures) (c .before .before .before .before .before .before .before .word325 .ensures) (c .before .before .before .before .before .before .signed2 .ensures) (c .before .before .before .word16 .ensures) (c .word162 .ensures))
+returns c = rw (signed-again (c .before .before .before .before .signed .result) (record { sfits = (c .before .before .before .before .signed .ok) }), signed-again (c .before .before .signed2 .result) (record { sfits = (c .before .before .signed2 .ok) })) (fields-made _ _ _ _ _ _ _ _ _ _ (c .before .before .before .before .before .before .before .before .word32 .ensures) (c .before .before .before .before .before .before .before .word322 .ensures) (c .before .before .before .before .before .before .word323 .ensures) (c .before .before .before .before .before .word324 .ensures) (c .before .before .before .before .signed .ensures) (c .before .before .before .word325 .ensures) (c .before .before .signed2 .ensures) (c .before .word16 .ensures) (c .word162 .ensures))
 
 pub fields-spec : {M : Type 1} → statement M
 fields-spec =
@@ -162,37 +88,13 @@ fields-spec =
     shared-slice-read-t7
     shared-slice-read-t9
     shared-slice-read-t11
-    shared-slice-read-word32
-    shared-slice-read-word32-2
-    shared-slice-read-word32-3
-    shared-slice-read-word32-4
     word32-requires
-    shared-slice-read-word32-5
-    shared-slice-read-word32-6
-    shared-slice-read-word32-7
-    shared-slice-read-word32-8
     word32-requires-2
-    shared-slice-read-word32-9
-    shared-slice-read-word32-10
-    shared-slice-read-word32-11
-    shared-slice-read-word32-12
     word32-requires-3
-    shared-slice-read-word32-13
-    shared-slice-read-word32-14
-    shared-slice-read-word32-15
-    shared-slice-read-word32-16
     word32-requires-4
     signed-requires
-    shared-slice-read-word32-17
-    shared-slice-read-word32-18
-    shared-slice-read-word32-19
-    shared-slice-read-word32-20
     word32-requires-5
     signed-requires-2
-    shared-slice-read-word16
-    shared-slice-read-word16-2
     word16-requires
-    shared-slice-read-word16-3
-    shared-slice-read-word16-4
     word16-requires-2
     returns)

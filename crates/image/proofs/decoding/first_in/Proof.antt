@@ -3,8 +3,8 @@ use borrow.Author.Needs.{needs}
 use Rattle.image.proofs.decoding.first_in.Statement.{statement}
 use Rattle.image.proofs.decoding.first_in.Tie as tie
 
-word-at-requires : tie.Need-word-at-requires
-word-at-requires c κs = search needs
+word32-requires : tie.Need-word32-requires
+word32-requires c κs = search needs
 
 shared-slice-read-cycle-in : tie.Need-shared-slice-read-cycle-in
 shared-slice-read-cycle-in c = search needs
@@ -26,13 +26,13 @@ cycle-in-requires c κs = search needs
 
 returns : tie.Need-returns
 unfolding firstIn
-returns c = simp (c .cycle-in .ensures, c .before .before .before .before .before .before .word-at .ensures)
+returns c = simp (c .cycle-in .ensures, c .before .before .before .before .before .before .word32 .ensures)
 
 pub first-in-spec : {M : Type 1} → statement M
 first-in-spec =
     tie.close
     (tie.spec
-    word-at-requires
+    word32-requires
     shared-slice-read-cycle-in
     shared-slice-read-cycle-in-2
     shared-slice-read-cycle-in-3

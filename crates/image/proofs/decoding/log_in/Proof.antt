@@ -20,21 +20,21 @@ part-standing-in-end c = search needs
 standing-in-requires : tie.Need-standing-in-requires
 standing-in-requires c κs = search needs
 
-word-at-requires : tie.Need-word-at-requires
-word-at-requires c κs = search needs
+word32-requires : tie.Need-word32-requires
+word32-requires c κs = search needs
 
-word-at-requires-2 : tie.Need-word-at-requires-2
-word-at-requires-2 c κs = search needs
+word32-requires-2 : tie.Need-word32-requires-2
+word32-requires-2 c κs = search needs
 
-word-at-requires-3 : tie.Need-word-at-requires-3
-word-at-requires-3 c κs = search needs
+word32-requires-3 : tie.Need-word32-requires-3
+word32-requires-3 c κs = search needs
 
-word-at-requires-4 : tie.Need-word-at-requires-4
-word-at-requires-4 c κs = search needs
+word32-requires-4 : tie.Need-word32-requires-4
+word32-requires-4 c κs = search needs
 
 returns : tie.Need-returns
 unfolding logIn
-returns c = simp (c .before .before .before .before .standing-in .ensures, part-from (now (c .before .before .before .before .before .before .before .before .args .s)) 97, c .before .before .before .word-at .ensures, c .before .before .word-at2 .ensures, c .before .word-at3 .ensures, c .word-at4 .ensures)
+returns c = simp (c .before .before .before .before .standing-in .ensures, part-from (now (c .before .before .before .before .before .before .before .before .args .s)) 97, c .before .before .before .word32 .ensures, c .before .before .word322 .ensures, c .before .word323 .ensures, c .word324 .ensures)
 
 pub log-in-spec : {M : Type 1} → statement M
 log-in-spec =
@@ -45,8 +45,8 @@ log-in-spec =
     part-standing-in-start
     part-standing-in-end
     standing-in-requires
-    word-at-requires
-    word-at-requires-2
-    word-at-requires-3
-    word-at-requires-4
+    word32-requires
+    word32-requires-2
+    word32-requires-3
+    word32-requires-4
     returns)

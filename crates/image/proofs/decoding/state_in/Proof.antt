@@ -3,23 +3,23 @@ use borrow.Author.Needs.{needs}
 use Rattle.image.proofs.decoding.state_in.Statement.{statement}
 use Rattle.image.proofs.decoding.state_in.Tie as tie
 
-word-at-requires : tie.Need-word-at-requires
-word-at-requires c κs = search needs
+word32-requires : tie.Need-word32-requires
+word32-requires c κs = search needs
 
 shared-slice-read-filter-in : tie.Need-shared-slice-read-filter-in
 shared-slice-read-filter-in c = search needs
 
-word-at-requires-2 : tie.Need-word-at-requires-2
-word-at-requires-2 c κs = search needs
+word32-requires-2 : tie.Need-word32-requires-2
+word32-requires-2 c κs = search needs
 
 filter-in-requires : tie.Need-filter-in-requires
 filter-in-requires c κs = search needs
 
-word-at-requires-3 : tie.Need-word-at-requires-3
-word-at-requires-3 c κs = search needs
+word32-requires-3 : tie.Need-word32-requires-3
+word32-requires-3 c κs = search needs
 
-word-at-requires-4 : tie.Need-word-at-requires-4
-word-at-requires-4 c κs = search needs
+word32-requires-4 : tie.Need-word32-requires-4
+word32-requires-4 c κs = search needs
 
 shared-slice-read-t10 : tie.Need-shared-slice-read-t10
 shared-slice-read-t10 c = search needs
@@ -41,18 +41,18 @@ log-in-requires c κs = search needs
 
 returns : tie.Need-returns
 unfolding stateIn
-returns c = simp (c .before .before .before .before .before .before .before .before .filter-in .ensures, c .before .before .before .before .runs-in .ensures, c .before .before .before .first-in .ensures, c .before .before .second-in .ensures, c .before .absent-in .ensures, c .log-in .ensures, c .before .before .before .before .before .before .before .before .before .before .before .word-at .ensures, c .before .before .before .before .before .before .before .before .before .word-at2 .ensures, c .before .before .before .before .before .before .before .word-at3 .ensures, c .before .before .before .before .before .before .word-at4 .ensures)
+returns c = simp (c .before .before .before .before .before .before .before .before .filter-in .ensures, c .before .before .before .before .runs-in .ensures, c .before .before .before .first-in .ensures, c .before .before .second-in .ensures, c .before .absent-in .ensures, c .log-in .ensures, c .before .before .before .before .before .before .before .before .before .before .before .word32 .ensures, c .before .before .before .before .before .before .before .before .before .word322 .ensures, c .before .before .before .before .before .before .before .word323 .ensures, c .before .before .before .before .before .before .word324 .ensures)
 
 pub state-in-spec : {M : Type 1} → statement M
 state-in-spec =
     tie.close
     (tie.spec
-    word-at-requires
+    word32-requires
     shared-slice-read-filter-in
-    word-at-requires-2
+    word32-requires-2
     filter-in-requires
-    word-at-requires-3
-    word-at-requires-4
+    word32-requires-3
+    word32-requires-4
     shared-slice-read-t10
     runs-in-requires
     first-in-requires
