@@ -13,13 +13,16 @@ use image::Loading;
 use message::Reading;
 use wire::Answer;
 
+// The answer for memory that holds no image of an engine.
+const NO_ENGINE: i32 = -21;
+
 // Writes the image of an engine that has taken no sample. Each byte of that image is 0.
 #[no_mangle]
 pub extern "C" fn yoldrim_fresh(memory: &mut [u8]) -> i32
     ensures { λ r. ⌜ FreshImaged (now (memory .entry)) r (now (memory .exit)) ⌝ }
 {
     if memory.len() != 129 {
-        return -21;
+        return NO_ENGINE;
     }
     let zeros = [0u8; 129];
     wire::copy_at(memory, 0, &zeros);
@@ -39,7 +42,7 @@ pub extern "C" fn yoldrim_sample(memory: &mut [u8], bytes: &[u8], out: &mut [u8]
     }
     let loading = image::load(memory);
     match loading {
-        Loading::Refused(_) => -21,
+        Loading::Refused(_) => NO_ENGINE,
         Loading::Accepted(e) => {
             let called = e.step(bytes, out);
             finish(called, memory)
@@ -60,7 +63,7 @@ pub extern "C" fn yoldrim_block(memory: &mut [u8], bytes: &[u8], out: &mut [u8])
     }
     let loading = image::load(memory);
     match loading {
-        Loading::Refused(_) => -21,
+        Loading::Refused(_) => NO_ENGINE,
         Loading::Accepted(e) => {
             let called = e.block(bytes, out);
             finish(called, memory)
