@@ -5,6 +5,7 @@
 //!     bench plain < FILE                  document 01's printing program, plain engine
 //!     bench lines < FILE                  the same by the second implementation
 //!     bench ratio PROGRAM FILE [RUNS]     user time of PROGRAM over that of `plain`
+//!     bench stack PROGRAM FILE            stack that PROGRAM and the library's calls use
 
 use std::fs::File;
 use std::hint::black_box;
@@ -33,6 +34,7 @@ fn main() -> ExitCode {
         ["lines"] => filter(&mut Reference::default()),
         ["ratio", program, file] => ratio(program, file, "9"),
         ["ratio", program, file, runs] => ratio(program, file, runs),
+        ["stack", program, file] => stack(program, file),
         _ => Err(io::Error::other("no such mode; the modes stand at the head of bench.rs")),
     };
     match done {
@@ -139,6 +141,98 @@ fn user_seconds(of: i32) -> f64 {
     // SAFETY: the pointer is to a live structure of the size Linux fills.
     unsafe { getrusage(of, &mut usage) };
     usage.user_seconds as f64 + usage.user_microseconds as f64 / 1e6
+}
+
+// ---------------------------------------------------------------------- stack
+
+/// The smallest limit of the stack, in KiB, under which a program runs a recording.
+fn stack(program: &str, file: &str) -> io::Result<()> {
+    let (mut short, mut enough) = (4, 8_192);
+    if !runs_within(program, file, enough)? {
+        return Err(io::Error::other("the program does not run with 8 MiB of stack"));
+    }
+    while enough - short > 4 {
+        let middle = short + (enough - short) / 8 * 4;
+        if runs_within(program, file, middle)? {
+            enough = middle;
+        } else {
+            short = middle;
+        }
+    }
+    println!("stack of the program: {enough} KiB is the smallest limit that it runs under");
+    library_stack()
+}
+
+fn runs_within(program: &str, file: &str, kib: u32) -> io::Result<bool> {
+    let status = Command::new("sh")
+        .arg("-c")
+        .arg(format!("ulimit -s {kib} && exec \"$0\""))
+        .arg(program)
+        .env_clear()
+        .stdin(File::open(file)?)
+        .stdout(Stdio::null())
+        .stderr(Stdio::null())
+        .status()?;
+    Ok(status.success())
+}
+
+/// Bytes below a caller that are painted, and looked at after a call: less
+/// than a page, since a larger frame is touched page by page when it is made.
+#[cfg(library)]
+const PAINTED: usize = 3_968;
+#[cfg(library)]
+const PAINT: u8 = 0xA5;
+
+#[cfg(library)]
+fn library_stack() -> io::Result<()> {
+    let mut engine = [0; ffi::ENGINE_BYTES];
+    let block: Block = recording(BLOCK_SAMPLES, 1).next().expect("a recording has a block");
+    let sample = &block[BLOCK_HEADER..BLOCK_HEADER + SAMPLE_BYTES];
+    let mut out = [0; BLOCK_OUTPUT];
+    let of_sample = depth(|| {
+        assert_eq!(ffi::fresh(&mut engine), 0);
+        assert!(ffi::sample(&mut engine, sample, &mut out) >= 0);
+    });
+    let of_block = depth(|| {
+        assert_eq!(ffi::fresh(&mut engine), 0);
+        assert!(ffi::block(&mut engine, &block, &mut out) >= 0);
+    });
+    println!("stack of a call: sample {of_sample} bytes, block {of_block} bytes, with the frames of this test");
+    Ok(())
+}
+
+#[cfg(not(library))]
+fn library_stack() -> io::Result<()> {
+    Ok(())
+}
+
+/// How far below this function a call writes: the memory there is painted
+/// before the call and looked at after it, from frames of the same size.
+#[cfg(library)]
+fn depth(mut call: impl FnMut()) -> usize {
+    call();
+    paint();
+    call();
+    let left = untouched();
+    assert!(left > 0, "the call uses more stack than is painted");
+    PAINTED - left
+}
+
+#[cfg(library)]
+#[inline(never)]
+fn paint() {
+    black_box([PAINT; PAINTED]);
+}
+
+/// The painted bytes that still hold the paint, from the far end on.
+#[cfg(library)]
+#[inline(never)]
+fn untouched() -> usize {
+    let frame = std::mem::MaybeUninit::<[u8; PAINTED]>::uninit();
+    let first = black_box(frame.as_ptr().cast::<u8>());
+    // SAFETY: each address lies in the frame; what it holds is any byte, and
+    // is read as volatile, so that nothing is taken as known of it.
+    (0..PAINTED).take_while(|&i| unsafe { first.add(i).read_volatile() } == PAINT).count()
 }
 
 // --------------------------------------------------------------------- timing
