@@ -1,7 +1,6 @@
 // The state with one more sample, before anything is given at its tick.
 ghost use mathlib.Core.Path.{_≡_};
 ghost use Prim.Native.Nat.{_<_, _≤_};
-ghost use mathlib.Core.Bool.{cond, _||_};
 ghost use Rattle.history.specs.Rules.{rank, standingRank};
 ghost use Rattle.history.specs.State.{goOn, mark, switchedOff, runsAfter, absentAfter, conditionsAt, cycleAfter, taken};
 ghost use Rattle.engine.specs.Fits.{RunsFit, AbsentFit, CanStep};

@@ -1,7 +1,7 @@
 -- The bits of a value, with a NaN's apart: a program reads the bits of other values only. And the value at which readings of 0 let the filter rest.
 -- Assumes nothing.
 use mathlib.Core.Path.{_≡_, refl, sym, subst, ap, _∙_}
-use mathlib.Core.Bool.{Bool, true, false, not}
+use mathlib.Core.Bool.{true, false, not}
 use Prim.Native.Nat.{ℕ}
 use native.Mathlib.Omega.{arith}
 use lib.Dec.{T}

@@ -10,7 +10,6 @@ use Rattle.message.specs.declared.Message.{Message}
 use Rattle.history.specs.declared.Notice.{Notice}
 use Rattle.history.specs.declared.Notice.the-variants.{Nothing, Sent}
 use Rattle.history.specs.declared.View.{View}
-use Rattle.history.specs.declared.Decision.{Decision}
 use Rattle.history.specs.Rules.{Settings, new, update, cancel, highest, reportOf, cancelOf, cancelStanding, cancelled, updateDue, raise, keep, decide, noticed, givenBy}
 use Rattle.history.specs.History.{Past, isCancel, messages, standing, events, viewOf, givenAt, tickOf, after, givenDuring}
 

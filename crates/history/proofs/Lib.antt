@@ -15,6 +15,7 @@ pub mod HappeningsInWords
 pub mod ItsNewInWords
 pub mod ReadyInWords
 pub mod RulesInWords
+pub mod HighestInWords
 pub mod StopsComputed
 pub mod BenchStopsHold
 pub mod FurtherStopsHold

@@ -27,6 +27,7 @@ use Rattle.history.specs.History.{Past, present, size, filterAfter, mess
 use Rattle.history.proofs.GivenInOrder.{either}
 use Rattle.history.proofs.Reached.{tickWith, IfSent, LastReport, Reached, reached-none, quality-at-most-3, still-counted, given-aside, crash-counted}
 use Rattle.history.proofs.ReportAdmitted.{report-admitted, cancel-admitted}
+use Rattle.history.proofs.TickNumbers.{size-after}
 
 -- none of the samples is refused by 3 to 8
 abbrev pub AllAccepted : List Sample → Type 0
@@ -219,11 +220,6 @@ module _ (S : Settings) (x : Sample) (past : Past) (r : Reached past) (f : Field
   unfolding tickOf givenAt
   reached-more = decision-fits x past r f few S .1
 
-after-longer : (S : Settings) (past : Past) (xs : List Sample) → size past ≤ size (after S past xs)
-unfolding after size
-after-longer S past [] = omega arith
-after-longer S past (x ∷ xs) = let h = after-longer S (tickOf S x past ∷ past) xs in omega arith
-
 all-appended : (a b : List Message) → AllAdmitted a → AllAdmitted b → AllAdmitted (a ++ b)
 all-appended [] b p q = q
 all-appended (m ∷ a) b p q = (p .0, all-appended a b (p .1) q)
@@ -234,7 +230,7 @@ unfolding after givenDuring size
 from-reached S past [] r a most = (r, tt)
 from-reached S past (x ∷ xs) r a most =
     let f = fields-clear x (a .0) in
-    let l = after-longer S (tickOf S x past ∷ past) xs in
+    let l = size-after S (tickOf S x past ∷ past) xs in
     let rest = from-reached S (tickOf S x past ∷ past) xs (reached-more S x past r f (omega arith)) (a .1) most in
     (rest .0, all-appended (givenAt S x past) (givenDuring S (tickOf S x past ∷ past) xs) (given-admitted S x past r f (omega arith)) (rest .1))
 

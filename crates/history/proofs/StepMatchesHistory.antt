@@ -3,7 +3,7 @@
 use mathlib.Core.Path.{_≡_, refl, sym, ap, _∙_}
 use mathlib.Core.Bool.{Bool, true, false, not, _&&_, _||_, cond}
 use mathlib.Core.List.{List, [], _∷_, _++_, reverseAux}
-use Prim.Native.Nat.{ℕ, suc, _+_, _-_, max, _≤_, _<_}
+use Prim.Native.Nat.{ℕ, suc, _+_, _-_}
 use native.Mathlib.Nat.{add-suc}
 use native.Mathlib.Numerals.{add-one}
 use native.Mathlib.Omega.{arith}
@@ -13,12 +13,11 @@ use Rattle.sample.specs.declared.Sample.{Sample}
 use Rattle.message.specs.declared.Message.{Message}
 use Rattle.history.specs.declared.Notice.{Notice}
 use Rattle.history.specs.declared.Notice.the-variants.{Nothing, Sent}
-use Rattle.history.specs.declared.Absent.{Absent}
 use Rattle.history.specs.declared.Log.{Log}
 use Rattle.history.specs.declared.State.{State}
 use Rattle.history.specs.declared.Decision.{Decision}
 use Rattle.history.specs.Rules.{Settings, decide, noticed, givenBy}
-use Rattle.history.specs.History.{Tick, Past, Fact, present, never, size, run, during, since, held, offHeld, filterAfter, stationary, parked, idling, braked, belted, ignited, doorOpen, bootOpen, bonnetOpen, conditionA, conditionB, conditionC, conditionD, oneOfAtoD, oneOfEtoH, wasIgnited, messages, standing, events, started, lastCancel, countedFrom, counted, ready, cycleOf, ecallPressed, lowSeverity, highSeverity, highestQuality, viewOf, givenAt, tickOf, after, givenDuring}
+use Rattle.history.specs.History.{Past, Fact, present, never, size, run, during, since, held, offHeld, filterAfter, stationary, parked, idling, braked, belted, ignited, doorOpen, bootOpen, bonnetOpen, conditionA, conditionB, conditionC, conditionD, oneOfAtoD, oneOfEtoH, wasIgnited, messages, standing, events, started, lastCancel, countedFrom, counted, ready, cycleOf, ecallPressed, lowSeverity, highSeverity, highestQuality, viewOf, givenAt, tickOf, after, givenDuring}
 use Rattle.history.specs.State.{fresh, runsAfter, absentAfter, conditionsAt, cycleAfter, taken, qualityFrom, seen, logged, loggedNotice, withLog, step, stateAfter, stepsGive}
 
 -- the log that messages leave, the newest first

@@ -1,12 +1,11 @@
 -- The rules of document 01: what is given at a tick, from what is looked at. What that is, `History` says by looking back, `State` by counting.
 -- Assumes nothing.
 use Prim.Native.Nat.{ℕ, _+_, _-_, _*_, _/_}
-use mathlib.Core.Bool.{Bool, true, false, not, _&&_, _||_, cond}
+use mathlib.Core.Bool.{Bool, false, not, _&&_, _||_, cond}
 use mathlib.Core.List.{List, [], _∷_, _++_}
 use lib.Dec.{leb, ltb, eqb}
 use lib.IntN.{ℤ, natAbs, _-ℤ_}
 use Rattle.sample.specs.declared.Position.{Position}
-use Rattle.sample.specs.declared.Sample.{Sample}
 use Rattle.sample.specs.Sample.{switchesOf}
 use Rattle.message.specs.declared.Message.{Message}
 use Rattle.message.specs.Warnings.{byWarning, rowOf, validityOf, roadTypeOf}

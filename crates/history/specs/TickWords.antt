@@ -7,7 +7,8 @@ use mathlib.Core.List.{List, [], _∷_, _++_}
 use Prim.Native.Nat.{ℕ, _+_, _-_, _*_, _≤_, _<_}
 use lib.Dec.{eqb}
 use Rattle.message.specs.declared.Message.{Message}
-use Rattle.history.specs.Rules.{Settings, rank}
+use Rattle.history.specs.declared.View.{View}
+use Rattle.history.specs.Rules.{Settings, rank, overrules}
 use Rattle.history.specs.History.{Past, Fact, never, size, stationary, ignited, doorOpen, bootOpen, bonnetOpen, conditionA, conditionB, conditionC, conditionD, oneOfEtoH, isNew, isCancel, ready, ecallPressed, lowSeverity, highSeverity}
 use Rattle.history.specs.Standing.{among, Stands}
 
@@ -142,3 +143,11 @@ pub record SinceCode (ticks code : ℕ) : Type 0 where
   pub below-2 : 600 ≤ ticks → ticks < 1200 → code ≡ 1
   pub below-15 : 1200 ≤ ticks → ticks < 9000 → code ≡ 2
   pub from-15 : 9000 ≤ ticks → code ≡ 3
+
+-- ---- rule 1
+
+-- "A warning outranking the standing one triggers (with none standing, any): .. New of the highest": h is that warning, 0 where there is none
+pub record TheHighest (S : Settings) (v : View) (h : ℕ) : Type 0 where
+  pub is-one : (h ≡ 0 → ⊥) → overrules S v h ≡ true
+  pub above-all : (warning : ℕ) → overrules S v warning ≡ true → rank warning ≤ rank h
+  pub some : (warning : ℕ) → overrules S v warning ≡ true → h ≡ 0 → ⊥

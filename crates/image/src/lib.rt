@@ -36,10 +36,10 @@ pub fn load(image: &[u8]) -> Loading
         return Loading::Refused(21);
     }
     let state = decoding::state_in(image);
-    let engine = Engine { state };
-    if !engine.in_range() {
+    if !ranges::state_in_range(state) {
         return Loading::Refused(21);
     }
+    let engine = Engine { state };
     let again = save(engine);
     if decoding::same(&again, image) {
         Loading::Accepted(engine)

@@ -1,7 +1,7 @@
 // The 32-byte message record: its reader, its writer, and what its fields are by warning and by road.
 ghost use mathlib.Core.Path.{_≡_};
 ghost use lib.ListN.{length};
-ghost use Rattle.wire.specs.Outcome.{firstFault, outcome, answered};
+ghost use Rattle.wire.specs.Outcome.{outcome, answered};
 ghost use Rattle.wire.specs.Memory.{memory};
 ghost use Rattle.message.specs.Warnings.{rowOf, validityOf, roadTypeOf, directionOf};
 ghost use Rattle.message.specs.Message.{messageOf, encode, admits, derivedFit, messageRead, reading, writeFault};

@@ -9,11 +9,11 @@ returns c = refused-length _ (c .if1 .taken)
 state-in-requires : tie.Need-state-in-requires
 state-in-requires c κs = search needs
 
-in-range-requires : tie.Need-in-range-requires
-in-range-requires c κs = search needs
+state-in-range-requires : tie.Need-state-in-range-requires
+state-in-range-requires c κs = search needs
 
 returns-2 : tie.Need-returns-2
-returns-2 c = refused-range _ _ (c .before .before .state-in .ensures) (c .before .before .before .if1 .left) _ (c .before .in-range .ensures) (c .if2 .taken)
+returns-2 c = refused-range _ _ (c .before .before .state-in .ensures) (c .before .before .before .if1 .left) _ (c .before .state-in-range .ensures) (c .if2 .taken)
 
 save-requires : tie.Need-save-requires
 save-requires c κs = search needs
@@ -25,10 +25,10 @@ same-requires : tie.Need-same-requires
 same-requires c κs = search needs
 
 returns-3 : tie.Need-returns-3
-returns-3 c = loaded _ _ (c .before .before .before .before .before .before .state-in .ensures) (c .before .before .before .before .before .before .before .if1 .left) _ (c .before .before .before .before .before .in-range .ensures) (c .before .before .before .before .if2 .left) _ (c .before .before .before .save .ensures) _ (c .before .same .ensures) (c .if3 .taken)
+returns-3 c = loaded _ _ (c .before .before .before .before .before .before .state-in .ensures) (c .before .before .before .before .before .before .before .if1 .left) _ (c .before .before .before .before .before .state-in-range .ensures) (c .before .before .before .before .if2 .left) _ (c .before .before .before .save .ensures) _ (c .before .same .ensures) (c .if3 .taken)
 
 returns-4 : tie.Need-returns-4
-returns-4 c = refused-bytes _ _ (c .before .before .before .before .before .before .state-in .ensures) (c .before .before .before .before .before .before .before .if1 .left) _ (c .before .before .before .before .before .in-range .ensures) (c .before .before .before .before .if2 .left) _ (c .before .before .before .save .ensures) _ (c .before .same .ensures) (c .if3 .left)
+returns-4 c = refused-bytes _ _ (c .before .before .before .before .before .before .state-in .ensures) (c .before .before .before .before .before .before .before .if1 .left) _ (c .before .before .before .before .before .state-in-range .ensures) (c .before .before .before .before .if2 .left) _ (c .before .before .before .save .ensures) _ (c .before .same .ensures) (c .if3 .left)
 
 pub load-spec : {M : Type 1} → statement M
 load-spec =
@@ -36,7 +36,7 @@ load-spec =
     (tie.spec
     returns
     state-in-requires
-    in-range-requires
+    state-in-range-requires
     returns-2
     save-requires
     slice-aggregate-same

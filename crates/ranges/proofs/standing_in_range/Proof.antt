@@ -1,7 +1,7 @@
 use Rattle.history.specs.Ranges.{standingInRange}
 use borrow.Author.Needs.{needs}
-use Rattle.engine.proofs.ranges.standing_in_range.Statement.{statement}
-use Rattle.engine.proofs.ranges.standing_in_range.Tie as tie
+use Rattle.ranges.proofs.standing_in_range.Statement.{statement}
+use Rattle.ranges.proofs.standing_in_range.Tie as tie
 
 enum-told : tie.Need-enum-told
 enum-told c = search needs

@@ -1,8 +1,8 @@
 use Rattle.wire.specs.Tests.{allHold}
 use Rattle.history.specs.Ranges.{rangeTests, stateInRange}
 use borrow.Author.Needs.{needs}
-use Rattle.engine.proofs.ranges.state_in_range.Statement.{statement}
-use Rattle.engine.proofs.ranges.state_in_range.Tie as tie
+use Rattle.ranges.proofs.state_in_range.Statement.{statement}
+use Rattle.ranges.proofs.state_in_range.Tie as tie
 
 in-range-requires : tie.Need-in-range-requires
 in-range-requires c κs = search needs

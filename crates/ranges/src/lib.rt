@@ -13,7 +13,8 @@ fn standing_in_range(n: u32, standing: Notice) -> bool
     }
 }
 
-pub(crate) fn state_in_range(s: State) -> bool
+// Whether refusal 21 lets a state pass.
+pub fn state_in_range(s: State) -> bool
     ensures { λ r. ⌜ r ≡ stateInRange s ⌝ }
 {
     let n = s.taken;
