@@ -3,15 +3,12 @@ use borrow.Author.Needs.{needs}
 use Rattle.filter.proofs.bits_of.Statement.{statement}
 use Rattle.filter.proofs.bits_of.Tie as tie
 
--- src/lib.rt:68:37
 float-to-bits-result : tie.Need-float-to-bits-result
 float-to-bits-result c = no-nan _ (c .if1 .left)
 
--- src/lib.rt:65:1
 returns : tie.Need-returns
 returns c = nan-bits _ (c .if1 .taken)
 
--- src/lib.rt:65:1
 returns-2 : tie.Need-returns-2
 returns-2 c = search needs
 

@@ -5,19 +5,15 @@ use borrow.Author.Needs.{needs}
 use Rattle.filter.proofs.blended.Statement.{statement}
 use Rattle.filter.proofs.blended.Tie as tie
 
--- src/lib.rt:58:12
 bits-of-requires : tie.Need-bits-of-requires
 bits-of-requires c κs = search needs
 
--- src/lib.rt:59:13
 returns : tie.Need-returns
 returns c = rests _ _ (c .before .before .before .good .0 .1) (c .before .before .if1 .taken) (sym (c .before .bits-of .ensures) ∙ (c .if2 .taken))
 
--- src/lib.rt:62:13
 int-to-float-x : tie.Need-int-to-float-x
 int-to-float-x c = search needs
 
--- src/lib.rt:54:1
 returns-2 : tie.Need-returns-2
 unfolding blend
 returns-2 c = refl

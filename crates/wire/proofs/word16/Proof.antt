@@ -4,31 +4,24 @@ use borrow.Author.Needs.{needs}
 use Rattle.wire.proofs.word16.Statement.{statement}
 use Rattle.wire.proofs.word16.Tie as tie
 
--- src/lib.rt:20:9
 byte-requires : tie.Need-byte-requires
 byte-requires c κs = search needs
 
--- src/lib.rt:21:9
 byte-requires-2 : tie.Need-byte-requires-2
 byte-requires-2 c κs = search needs
 
--- src/lib.rt:22:5
 cast-result : tie.Need-cast-result
 cast-result c = search needs
 
--- src/lib.rt:22:23
 cast-result-2 : tie.Need-cast-result-2
 cast-result-2 c = search needs
 
--- src/lib.rt:22:16
 mul-result : tie.Need-mul-result
 mul-result c = search needs
 
--- src/lib.rt:22:5
 add-result : tie.Need-add-result
 add-result c = search needs
 
--- src/lib.rt:17:1
 returns : tie.Need-returns
 returns c = word16-made (now (c .before .before .before .args .bytes)) (c .before .before .before .args .at) _ _ (c .before .byte .ensures) (c .byte2 .ensures)
 

@@ -4,55 +4,42 @@ use borrow.Author.Needs.{needs}
 use Rattle.engine.proofs.taking.taken.Statement.{statement}
 use Rattle.engine.proofs.taking.taken.Tie as tie
 
--- src/taking.rt:115:9
 switches-on-requires : tie.Need-switches-on-requires
 switches-on-requires c κs = search needs
 
--- src/taking.rt:117:9
 next-requires : tie.Need-next-requires
 next-requires c κs = search needs
 
--- src/taking.rt:118:9
 is-still-requires : tie.Need-is-still-requires
 is-still-requires c κs = search needs
 
--- src/taking.rt:120:9
 runs-after-requires : tie.Need-runs-after-requires
-runs-after-requires c κs = runs-fit _ (c .before .before .before .before .pre .fits) (omega (arith, (c .before .before .before .before .pre .room)))
+runs-after-requires c κs = runs-fit _ (c .before .before .before .before .pre .fits) (omega (arith, c .before .before .before .before .pre .room))
 
--- src/taking.rt:121:9
 conditions-at-requires : tie.Need-conditions-at-requires
 conditions-at-requires c κs = search needs
 
--- src/taking.rt:124:9
 standing-rank-requires : tie.Need-standing-rank-requires
 standing-rank-requires c κs = search needs
 
--- src/taking.rt:129:16
 add-t16 : tie.Need-add-t16
-add-t16 c = omega (arith, (c .before .before .before .before .before .before .before .before .before .before .before .before .pre .room))
+add-t16 c = omega (arith, c .before .before .before .before .before .before .before .before .before .before .before .before .pre .room)
 
--- src/taking.rt:131:21
 go-on-requires : tie.Need-go-on-requires
-go-on-requires c κs = omega (arith, (c .before .before .before .before .before .before .before .before .before .before .before .before .pre .room), (c .before .before .before .before .before .before .before .before .before .before .before .before .pre .fits .stationary))
+go-on-requires c κs = omega (arith, c .before .before .before .before .before .before .before .before .before .before .before .before .pre .room, c .before .before .before .before .before .before .before .before .before .before .before .before .pre .fits .stationary)
 
--- src/taking.rt:132:17
 go-on-requires-2 : tie.Need-go-on-requires-2
-go-on-requires-2 c κs = omega (arith, (c .before .before .before .before .before .before .before .before .before .before .before .before .before .pre .room), (c .before .before .before .before .before .before .before .before .before .before .before .before .before .pre .fits .moving))
+go-on-requires-2 c κs = omega (arith, c .before .before .before .before .before .before .before .before .before .before .before .before .before .pre .room, c .before .before .before .before .before .before .before .before .before .before .before .before .before .pre .fits .moving)
 
--- src/taking.rt:135:16
 cycle-after-requires : tie.Need-cycle-after-requires
-cycle-after-requires c κs = omega (arith, (c .before .before .before .before .before .before .before .before .before .before .before .before .before .before .before .before .pre .room), (c .before .before .before .before .before .before .before .before .before .before .before .before .before .before .before .before .pre .fits .first))
+cycle-after-requires c κs = omega (arith, c .before .before .before .before .before .before .before .before .before .before .before .before .before .before .before .before .pre .room, c .before .before .before .before .before .before .before .before .before .before .before .before .before .before .before .before .pre .fits .first)
 
--- src/taking.rt:136:17
 cycle-after-requires-2 : tie.Need-cycle-after-requires-2
-cycle-after-requires-2 c κs = omega (arith, (c .before .before .before .before .before .before .before .before .before .before .before .before .before .before .before .before .before .before .pre .room), (c .before .before .before .before .before .before .before .before .before .before .before .before .before .before .before .before .before .before .pre .fits .second))
+cycle-after-requires-2 c κs = omega (arith, c .before .before .before .before .before .before .before .before .before .before .before .before .before .before .before .before .before .before .pre .room, c .before .before .before .before .before .before .before .before .before .before .before .before .before .before .before .before .before .before .pre .fits .second)
 
--- src/taking.rt:137:17
 absent-after-requires : tie.Need-absent-after-requires
-absent-after-requires c κs = absent-fit _ (c .before .before .before .before .before .before .before .before .before .before .before .before .before .before .before .before .before .before .before .pre .fits) (omega (arith, (c .before .before .before .before .before .before .before .before .before .before .before .before .before .before .before .before .before .before .before .pre .room)))
+absent-after-requires c κs = absent-fit _ (c .before .before .before .before .before .before .before .before .before .before .before .before .before .before .before .before .before .before .before .pre .fits) (omega (arith, c .before .before .before .before .before .before .before .before .before .before .before .before .before .before .before .before .before .before .before .pre .room))
 
--- src/taking.rt:111:1
 returns : tie.Need-returns
 returns c = taken-made _ _ _ _ _ _ _ _ _ _ _ _ _ (c .before .before .before .before .before .before .before .before .before .before .before .before .before .before .before .before .before .before .before .switches-on .ensures) (c .before .before .before .before .before .before .before .before .before .before .before .before .before .before .before .before .before .before .next .ensures) (c .before .before .before .before .before .before .before .before .before .before .before .before .before .before .before .before .before .is-still .ensures) (c .before .before .before .before .before .before .before .before .before .before .before .before .before .before .before .runs-after .ensures) (c .before .before .before .before .before .before .before .before .before .before .before .before .before .before .conditions-at .ensures) (c .before .before .before .before .before .before .before .before .before .before .before .before .standing-rank .ensures) (c .before .before .before .before .before .before .before .go-on .ensures) (c .before .before .before .before .before .before .go-on2 .ensures) (c .before .before .before .cycle-after .ensures) (c .before .cycle-after2 .ensures) (c .absent-after .ensures)
 

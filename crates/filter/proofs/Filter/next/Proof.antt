@@ -6,32 +6,25 @@ use borrow.Author.Needs.{needs}
 use Rattle.filter.proofs.Filter.next.Statement.{statement}
 use Rattle.filter.proofs.Filter.next.Tie as tie
 
--- src/lib.rt:24:13
 returns : tie.Need-returns
 returns c = simp ((c .if1 .taken), next-missing)
 
--- src/lib.rt:27:46
 enum-told : tie.Need-enum-told
 enum-told c = search needs
 
--- src/lib.rt:27:46
 int-to-float-t6 : tie.Need-int-to-float-t6
 int-to-float-t6 c = search needs
 
--- src/lib.rt:28:29
 enum-known-self : tie.Need-enum-known-self
 enum-known-self c = search needs
 
--- src/lib.rt:28:51
 blended-requires : tie.Need-blended-requires
 blended-requires c κs = search needs
 
--- src/lib.rt:20:5
 returns-2 : tie.Need-returns-2
 unfolding withReading
 returns-2 c = simp (c .before .enum-told .given .1) (sym (next-reading Empty _ (c .before .before .before .if1 .left)))
 
--- src/lib.rt:20:5
 returns-3 : tie.Need-returns-3
 unfolding withReading
 returns-3 c = simp ((c .before .before .self .given .1), (c .blended .ensures)) (sym (next-reading (Running (c .before .before .self .given .0 .0)) _ (c .before .before .before .before .if1 .left)))
