@@ -1,12 +1,12 @@
 -- `sameBytes` says whether two lists are equal, and how a loop finds it.
 -- Assumes nothing.
-use mathlib.Core.Path.{_≡_, refl, ap, _∙_}
-use mathlib.Core.Bool.{Bool, true, false, _&&_}
+use mathlib.Core.Path.{_≡_, refl, sym, ap, _∙_}
+use mathlib.Core.Bool.{Bool, true, false, _&&_, and-assoc, and-true}
 use mathlib.Core.List.{List, [], _∷_}
 use Prim.Native.Nat.{ℕ, _+_, _≤_, _<_}
 use native.Mathlib.Numerals.{add-one}
 use native.Mathlib.Omega.{arith}
-use borrow.Author.Tests.{eq-eqb, ne-eqb, eqb-true}
+use borrow.Author.Tests.{eq-eqb, eqb-true}
 use lib.Dec.{T, eqb}
 use lib.ListN.{length, getD, drop, drop-of-length-le}
 use lib.Seq.{drop-cons}
@@ -36,23 +36,17 @@ same-length xs ys h = go (sameBytes xs ys) refl
     go true e = absurd (h (ap length (same-equal xs ys (true-holds _ e))))
     go false e = refl
 
-module _ (xs ys : List ℕ) (i : ℕ) (l : length xs ≡ length ys) (e : sameBytes xs ys ≡ sameBytes (drop i xs) (drop i ys)) where
-  module _ (below : i < length xs) where
-    step : sameBytes xs ys ≡ (eqb (getD xs i 0) (getD ys i 0) && sameBytes (drop (i + 1) xs) (drop (i + 1) ys))
-    unfolding sameBytes
-    step =
-        let b : i < length ys = omega arith in
-        e ∙ rw (drop-cons xs i 0 below, drop-cons ys i 0 b, add-one i)
+module _ (xs ys : List ℕ) (all : Bool) (i : ℕ) (l : length xs ≡ length ys) (e : sameBytes xs ys ≡ (all && sameBytes (drop i xs) (drop i ys))) where
+  pub same-on : i < length xs → sameBytes xs ys ≡ (all && eqb (getD xs i 0) (getD ys i 0) && sameBytes (drop (i + 1) xs) (drop (i + 1) ys))
+  unfolding sameBytes
+  same-on below =
+      let b : i < length ys = omega arith in
+      e
+      ∙ rw (drop-cons xs i 0 below, drop-cons ys i 0 b, add-one i)
+      (sym (and-assoc all _ _))
 
-    -- equal at place i: the lists go on from i + 1
-    pub same-on : getD xs i 0 ≡ getD ys i 0 → sameBytes xs ys ≡ sameBytes (drop (i + 1) xs) (drop (i + 1) ys)
-    same-on h = step ∙ simp (eq-eqb _ _ h)
-
-    pub same-fails : (getD xs i 0 ≡ getD ys i 0 → ⊥) → false ≡ sameBytes xs ys
-    same-fails h = rw step (simp (ne-eqb _ _ h))
-
-  pub same-end : length xs ≤ i → true ≡ sameBytes xs ys
+  pub same-end : length xs ≤ i → all ≡ sameBytes xs ys
   unfolding sameBytes
   same-end h =
       let b : length ys ≤ i = omega arith in
-      rw (e, drop-of-length-le xs h, drop-of-length-le ys b)
+      rw (e, drop-of-length-le xs h, drop-of-length-le ys b) (sym (and-true all))

@@ -122,18 +122,18 @@ pub(crate) fn state_in(s: &[u8]) -> State
     }
 }
 
+// It does not stop at a difference, so that the compiler compares many bytes at once.
 pub(crate) fn same(a: &[u8], b: &[u8]) -> bool
     ensures { λ r. ⌜ r ≡ sameBytes (now (a .entry)) (now (b .entry)) ⌝ }
 {
     if a.len() != b.len() {
         return false;
     }
+    let mut all = true;
     let mut i = 0;
     while i < a.len() {
-        if a[i] != b[i] {
-            return false;
-        }
+        all = all & (a[i] == b[i]);
         i += 1;
     }
-    true
+    all
 }
