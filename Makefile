@@ -8,8 +8,11 @@ TICKS = 4000000
 run: target/bin/yoldrim
 	@target/bin/yoldrim < $(RECORDING)
 
-target/bin/yoldrim:
-	@rt check yoldrim > /dev/null
+# rt check leaves a crate that has not changed as it is, and says why where a proof fails.
+target/bin/yoldrim: crates.txt $(shell find crates -name '*.rt' -o -name '*.antt')
+	@mkdir -p target
+	@rt check yoldrim > target/check.log 2>&1 || { cat target/check.log; exit 1; }
+	@touch $@
 
 test:
 	@bash tests/all.sh $(ROUNDS)

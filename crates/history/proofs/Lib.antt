@@ -2,6 +2,7 @@ pub mod StepMatchesHistory
 pub mod GivenInOrder
 pub mod AtMostOneStands
 pub mod OneCancelBetweenNews
+pub mod StateMade
 pub mod InRange
 pub mod ReportAdmitted
 pub mod Reached
