@@ -1,74 +1,89 @@
 -- Demand 3 for calls on one image memory, from a fresh image on: loading gives back what saving kept, so it is the engine's demand 3.
 -- Assumes nothing.
-use mathlib.Core.Path.{_≡_, refl, sym, ap, subst, _∙_}
+use mathlib.Core.Path.{_≡_, refl, sym, ap, _∙_}
 use mathlib.Core.Bool.{Bool, true, false, cond}
-use mathlib.Core.List.{List, [], _∷_, map}
+use mathlib.Core.List.{List, [], _∷_, _++_, map}
 use Prim.Native.Nat.{ℕ}
 use lib.Dec.{eqb}
 use lib.ListN.{length}
+use Rattle.sample.specs.declared.Sample.{Sample}
+use Rattle.history.specs.declared.State.{State}
 use Rattle.history.specs.Rules.{unitSettings}
 use Rattle.history.specs.State.{fresh, stateAfter}
 use Rattle.engine.specs.declared.Engine.{Engine}
-use Rattle.engine.specs.Calls.{callEngine}
-use Rattle.engine.specs.Demand.{Call, sampleCall, blockCall, samplesAdded, promisedFault, promisedResult, promisedResults, Demand}
-use Rattle.engine.proofs.DemandHolds.{ValidEngine, engineAfter, engines-valid, demand-holds}
-use Rattle.image.specs.Image.{imageOf, engineIn}
+use Rattle.engine.specs.Calls.{Call, lent, samplesAdded, callAnswer, callMemory}
+use Rattle.engine.specs.Demand.{documentFault, documentResult, acceptedAfter, documentResults}
+use Rattle.engine.proofs.DemandHolds.{Accepted, engineAt, taken-of, in-range, filter-f32, same-answer, same-output, same-state, still-accepted, nothing-accepted, fresh-engine, documented}
+use Rattle.image.specs.Image.{imageOf, stateIn, engineIn, isImage}
 use Rattle.image.proofs.StateAgain.{state-in-image}
 use Rattle.image.proofs.LoadOfSave.{image-is-image}
-use Rattle.capi.specs.Imaged.{callImage}
-use Rattle.capi.specs.ImageDemand.{ImageResult, numbered, imagedFault, imagedResult, imagedResults, ImageDemand}
-use Rattle.capi.proofs.ImageCalls.{sample-fault-same, block-fault-same}
+use Rattle.capi.specs.Imaged.{answerNumber, imageFault, callImage, ImageMeets}
+use Rattle.capi.specs.ImageDemand.{ImageResult, numbered, ImageRun, ended, called, ImageDemand}
 
--- ---- one call on the image of a valid engine
+-- the image of the engine after these samples
+abbrev imageAt : List Sample → List ℕ
+imageAt before = imageOf (engineAt before .state)
 
-module _ (e : Engine) (v : ValidEngine e) where
-  engine-in : engineIn (imageOf (e .state)) ≡ e
-  engine-in = ap (λ s. record { state = s }) (state-in-image (e .state) (v .range) (v .f32))
+-- ---- one call
 
-  same-fault : (c : Call) → imagedFault (imageOf (e .state)) c ≡ promisedFault e c
-  unfolding imagedFault promisedFault
-  same-fault (sampleCall bytes out) =
-      sym (sample-fault-same (imageOf (e .state)) bytes (length out) (image-is-image (e .state) (v .range) (v .f32)))
-      ∙ rw (state-in-image (e .state) (v .range) (v .f32))
-  same-fault (blockCall bytes out) =
-      sym (block-fault-same (imageOf (e .state)) bytes (length out) (image-is-image (e .state) (v .range) (v .f32)))
-      ∙ rw (state-in-image (e .state) (v .range) (v .f32))
+module _ (before : List Sample) (a : Accepted before) (c : Call) where
+  state-again : stateIn (imageAt before) ≡ engineAt before .state
+  state-again = state-in-image (engineAt before .state) (in-range before a) (filter-f32 before a)
 
-  same-result : (c : Call) → imagedResult (imageOf (e .state)) c ≡ numbered (promisedResult e c)
-  unfolding imagedResult numbered promisedResult
-  same-result c = rw (same-fault c, engine-in)
+  engine-again : engineIn (imageAt before) ≡ engineAt before
+  engine-again = ap (λ (s : State). record { state = s }) state-again
 
-  same-image : (c : Call) → callImage (imagedFault (imageOf (e .state)) c) (samplesAdded c) (imageOf (e .state)) ≡ imageOf (callEngine (promisedFault e c) (samplesAdded c) e .state)
-  unfolding callImage callEngine
-  same-image c = rw (same-fault c, state-in-image (e .state) (v .range) (v .f32)) (go (eqb (promisedFault e c) 0))
+  same-fault : imageFault (imageAt before) c ≡ documentFault (length before) c
+  unfolding imageFault documentFault
+  same-fault =
+      let i : isImage (imageAt before) ≡ true = image-is-image (engineAt before .state) (in-range before a) (filter-f32 before a) in
+      rw (i, state-again, taken-of before)
+
+  number-at : answerNumber (callAnswer (imageFault (imageAt before) c) (samplesAdded c) (engineIn (imageAt before))) ≡ answerNumber (documentResult before c .answer)
+  number-at = rw (same-fault, engine-again) (ap answerNumber (same-answer before c))
+
+  output-at : callMemory (imageFault (imageAt before) c) (samplesAdded c) (engineIn (imageAt before)) (lent c) ≡ documentResult before c .output
+  output-at = rw (same-fault, engine-again) (same-output before c)
+
+  image-after : callImage (imageFault (imageAt before) c) (samplesAdded c) (imageAt before) ≡ imageAt (acceptedAfter before c)
+  unfolding callImage acceptedAfter
+  image-after = rw (same-fault, state-again) (go (eqb (documentFault (length before) c) 0))
     where
-      go : (b : Bool) → cond b (imageOf (stateAfter unitSettings (e .state) (samplesAdded c))) (imageOf (e .state))
-          ≡ imageOf ((cond b (record { state = stateAfter unitSettings (e .state) (samplesAdded c) }) e) .state)
-      go true = refl
+      go : (b : Bool) → cond b (imageOf (stateAfter unitSettings (engineAt before .state) (samplesAdded c))) (imageOf (engineAt before .state))
+          ≡ imageOf (engineAt (cond b (before ++ samplesAdded c) before) .state)
+      go true = ap imageOf (same-state before c true)
       go false = refl
 
 -- ---- the list
 
-results-same : (e : Engine) → ((calls : List Call) → ValidEngine (engineAfter e calls)) → (calls : List Call)
-    → imagedResults (imageOf (e .state)) calls ≡ map numbered (promisedResults e calls)
-unfolding imagedResults promisedResults engineAfter
-results-same e v [] = refl
-results-same e v (c ∷ cs) =
-    let here : ValidEngine e = v [] in
-    ap (λ (r : ImageResult). r ∷ imagedResults (callImage (imagedFault (imageOf (e .state)) c) (samplesAdded c) (imageOf (e .state))) cs) (same-result e here c)
-    ∙ ap (λ (s : List ℕ). numbered (promisedResult e c) ∷ imagedResults s cs) (same-image e here c)
-    ∙ ap (λ (l : List ImageResult). numbered (promisedResult e c) ∷ l)
-    (results-same (callEngine (promisedFault e c) (samplesAdded c) e) (λ ds. v (c ∷ ds)) cs)
+results-match : (before : List Sample) → Accepted before → {image : List ℕ} {calls : List Call} {results : List ImageResult}
+    → ImageRun image calls results → image ≡ imageAt before → results ≡ map numbered (documentResults before calls)
+unfolding documentResults numbered
+results-match before a ended same = refl
+results-match before a (called {c = c} {r = r} {after = after} {last = last} {cs = cs} {rs = rs} m rest) same =
+    let x : r ≡ answerNumber (documentResult before c .answer) = m .answer ∙ rw same (number-at before a c) in
+    let y : last ≡ documentResult before c .output = m .output ∙ rw same (output-at before a c) in
+    let z : after ≡ imageAt (acceptedAfter before c) = m .image ∙ rw same (image-after before a c) in
+    let l : rs ≡ map numbered (documentResults (acceptedAfter before c) cs) = results-match (acceptedAfter before c) (still-accepted before a c) rest z in
+    rw (x, y, l)
 
-valid : ValidEngine (record { state = fresh })
-unfolding engineAfter
-valid = engines-valid []
+run-made : (before : List Sample) → Accepted before → (calls : List Call) → ImageRun (imageAt before) calls (map numbered (documentResults before calls))
+unfolding documentResults numbered
+run-made before a [] = ended
+run-made before a (c ∷ cs) =
+    let m : ImageMeets (imageAt before) c (answerNumber (documentResult before c .answer)) (imageAt (acceptedAfter before c)) (documentResult before c .output) = record {
+      answer = sym (number-at before a c);
+      image = sym (image-after before a c);
+      output = sym (output-at before a c);
+    } in
+    called m (run-made (acceptedAfter before c) (still-accepted before a c) cs)
+
+fresh-image : imageOf fresh ≡ imageAt []
+fresh-image = ap (λ (e : Engine). imageOf (e .state)) fresh-engine
 
 -- demand 3, for the fresh image
 pub image-demand-holds : ImageDemand (imageOf fresh)
 image-demand-holds = record {
-  same-results = λ calls.
-      results-same (record { state = fresh }) engines-valid calls
-      ∙ ap (map numbered) (demand-holds .same-results calls);
-  engine = subst Demand (sym (engine-in (record { state = fresh }) valid)) demand-holds;
+  every-run = λ calls results run. record { same-results = results-match [] nothing-accepted run fresh-image; documented = documented calls };
+  some-run = λ calls. rw fresh-image (run-made [] nothing-accepted calls);
 }

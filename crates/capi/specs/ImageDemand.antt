@@ -1,14 +1,12 @@
--- Demand 3 for calls on one image memory: what the promises say of a list of calls is what document 01 says of it.
+-- Demand 3 for calls on one image memory: the runs of a list of calls by their promises, and the claim that they have what document 01 says.
 -- Assumes nothing.
 use Prim.Native.Nat.{ℕ}
 use mathlib.Core.Path.{_≡_}
 use mathlib.Core.List.{List, [], _∷_, map}
 use lib.IntN.{ℤ, pos}
-use lib.ListN.{length}
-use Rattle.engine.specs.Calls.{callAnswer, callMemory}
-use Rattle.engine.specs.Demand.{Call, sampleCall, blockCall, Result, lent, samplesAdded, documentResults, Demand}
-use Rattle.image.specs.Image.{engineIn}
-use Rattle.capi.specs.Imaged.{answerNumber, imageSampleFault, imageBlockFault, callImage, freshNumber, freshImage}
+use Rattle.engine.specs.Calls.{Call}
+use Rattle.engine.specs.Demand.{Result, documentResults, Documented}
+use Rattle.capi.specs.Imaged.{answerNumber, ImageMeets, freshNumber, freshImage}
 
 -- what is compared of a call: its answer as a number, and its output after it
 pub record ImageResult : Type 0 where
@@ -19,26 +17,26 @@ pub record ImageResult : Type 0 where
 unfoldable pub numbered : Result → ImageResult
 numbered r = record { number = answerNumber (r .answer); output = r .output }
 
-unfoldable pub imagedFault : List ℕ → Call → ℕ
-imagedFault image (sampleCall bytes out) = imageSampleFault image bytes (length out)
-imagedFault image (blockCall bytes out) = imageBlockFault image bytes (length out)
+-- a run: each call meets its promise, the one that `yoldrim_sample` and `yoldrim_block` ensure, and takes the image that the call
+-- before it left, also after a refusal; nothing else writes it meanwhile
+pub data ImageRun : List ℕ → List Call → List ImageResult → Type 0 where
+  ended : {image : List ℕ} → ImageRun image [] []
+  called : {image : List ℕ} {c : Call} {r : ℤ} {after last : List ℕ} {cs : List Call} {rs : List ImageResult}
+      → ImageMeets image c r after last
+      → ImageRun after cs rs
+      → ImageRun image (c ∷ cs) (record { number = r; output = last } ∷ rs)
 
-unfoldable pub imagedResult : List ℕ → Call → ImageResult
-imagedResult image c = record {
-  number = answerNumber (callAnswer (imagedFault image c) (samplesAdded c) (engineIn image));
-  output = callMemory (imagedFault image c) (samplesAdded c) (engineIn image) (lent c);
-}
-
--- each call takes the image that the call before it left, also after a refusal; nothing else writes it meanwhile
-unfoldable pub imagedResults : List ℕ → List Call → List ImageResult
-imagedResults image [] = []
-imagedResults image (c ∷ cs) = imagedResult image c ∷ imagedResults (callImage (imagedFault image c) (samplesAdded c) image) cs
-
-pub record ImageDemand (image : List ℕ) : Type 0 where
+-- "a single claim about the list", for a list of calls that had these results
+pub record ImageDocumented (calls : List Call) (results : List ImageResult) : Type 0 where
   -- every answer and output byte is what document 01 says
-  pub same-results : (calls : List Call) → imagedResults image calls ≡ map numbered (documentResults [] calls)
-  -- at most one warning stands, and one Cancel lies between neighbouring News, for the same lists
-  pub engine : Demand (engineIn image)
+  pub same-results : results ≡ map numbered (documentResults [] calls)
+  -- and there at most one warning stands after every call, and one Cancel lies between neighbouring News
+  pub documented : Documented calls (documentResults [] calls)
+
+-- demand 3, for the calls on this memory: every run has what document 01 says, and there is a run of every list
+pub record ImageDemand (image : List ℕ) : Type 0 where
+  pub every-run : (calls : List Call) (results : List ImageResult) → ImageRun image calls results → ImageDocumented calls results
+  pub some-run : (calls : List Call) → ImageRun image calls (map numbered (documentResults [] calls))
 
 -- the promise of `yoldrim_fresh`: its answer, the memory after it, and demand 3 for every list of calls on that memory
 pub record FreshImaged (before : List ℕ) (r : ℤ) (after : List ℕ) : Type 0 where

@@ -3,8 +3,8 @@
 use Prim.Native.Nat.{ℕ}
 use mathlib.Core.Path.{_≡_}
 use mathlib.Core.Bool.{not, cond}
-use mathlib.Core.List.{List, [], _∷_, _++_}
-use lib.Dec.{ltb, eqb}
+use mathlib.Core.List.{List, [], _∷_}
+use lib.Dec.{eqb}
 use lib.IntN.{ℤ, pos, negℤ}
 use lib.ListN.{length}
 use Rattle.wire.specs.declared.Answer.{Answer}
@@ -12,21 +12,19 @@ use Rattle.wire.specs.declared.Answer.the-variants.{Given, Refused}
 use Rattle.wire.specs.Memory.{splice}
 use Rattle.wire.specs.Outcome.{check, firstFault, Outcome, accepted, refused, outcome}
 use Rattle.sample.specs.declared.Sample.{Sample}
-use Rattle.sample.specs.Sample.{sampleOf}
 use Rattle.message.specs.declared.Message.{Message}
-use Rattle.block.specs.Block.{headerChecks, samplesIn, samplesOf}
 use Rattle.history.specs.declared.State.{State}
 use Rattle.history.specs.Rules.{unitSettings}
 use Rattle.history.specs.State.{fresh, stateAfter}
-use Rattle.engine.specs.Calls.{turnChecks, callAnswer, callMemory}
+use Rattle.engine.specs.Calls.{Call, lent, samplesAdded, callFault, callAnswer, callMemory}
 use Rattle.image.specs.Image.{imageOf, stateIn, engineIn, isImage}
 
--- "Not negative: the count; negative: minus the refusal number."
+-- an accepted call answers its count, a refused one minus the refusal number
 unfoldable pub answerNumber : Outcome ℕ → ℤ
 answerNumber (accepted n) = pos n
 answerNumber (refused n) = negℤ (pos n)
 
--- the message check: "0 or the refusal"
+-- the message check: 0, or minus the refusal number
 unfoldable pub checkNumber : Outcome Message → ℤ
 checkNumber (accepted m) = pos 0
 checkNumber (refused n) = negℤ (pos n)
@@ -36,43 +34,21 @@ unfoldable pub givenCount : Answer → ℕ
 givenCount (Given n) = n
 givenCount (Refused n) = 0
 
--- "Order for a sample: 1, 2, 21, 22, 3-8, 23.", with an image in 21's place
-unfoldable pub imageSampleFault : List ℕ → List ℕ → ℕ → ℕ
-imageSampleFault image bytes room =
-    firstFault
-    (check 1 (not (eqb (length bytes) 20))
-    ∷ check 2 (ltb room 64)
-    ∷ check 21 (not (isImage image))
-    ∷ turnChecks (stateIn image .taken) (sampleOf bytes ∷ []))
-
--- "For a block: 1, 2, 21, 9-12, then samples in turn"
-unfoldable pub imageBlockFault : List ℕ → List ℕ → ℕ → ℕ
-imageBlockFault image bytes room =
-    firstFault
-    (check 1 (not (eqb (length bytes) 512))
-    ∷ check 2 (ltb room 1600)
-    ∷ check 21 (not (isImage image))
-    ∷ (headerChecks bytes ++ turnChecks (stateIn image .taken) (samplesOf (samplesIn bytes))))
+-- the first failing check of a call on an image, which 21 asks for
+unfoldable pub imageFault : List ℕ → Call → ℕ
+imageFault image c = callFault (not (isImage image)) (stateIn image .taken) c
 
 -- the image after a call with this first failing check on these samples: a refused call leaves it as it was
 unfoldable pub callImage : ℕ → List Sample → List ℕ → List ℕ
 callImage fault xs image = cond (eqb fault 0) (imageOf (stateAfter unitSettings (stateIn image) xs)) image
 
 -- a call's promise: its answer, and the image and the output after it
-pub record ImageMeets (fault : ℕ) (xs : List Sample) (before out : List ℕ) (r : ℤ) (after last : List ℕ) : Type 0 where
-  pub answer : r ≡ answerNumber (callAnswer fault xs (engineIn before))
-  pub image : after ≡ callImage fault xs before
-  pub output : last ≡ callMemory fault xs (engineIn before) out
+pub record ImageMeets (before : List ℕ) (c : Call) (r : ℤ) (after last : List ℕ) : Type 0 where
+  pub answer : r ≡ answerNumber (callAnswer (imageFault before c) (samplesAdded c) (engineIn before))
+  pub image : after ≡ callImage (imageFault before c) (samplesAdded c) before
+  pub output : last ≡ callMemory (imageFault before c) (samplesAdded c) (engineIn before) (lent c)
 
-abbrev pub SampleImaged : List ℕ → List ℕ → List ℕ → ℤ → List ℕ → List ℕ → Type 0
-SampleImaged before bytes out r after last =
-    ImageMeets (imageSampleFault before bytes (length out)) (sampleOf bytes ∷ []) before out r after last
-
-abbrev pub BlockImaged : List ℕ → List ℕ → List ℕ → ℤ → List ℕ → List ℕ → Type 0
-BlockImaged before bytes out r after last =
-    ImageMeets (imageBlockFault before bytes (length out)) (samplesOf (samplesIn bytes)) before out r after last
-
--- "An image .. of another length, is refused with 21"
+-- refusal 21 for memory of another length than an image's
 unfoldable pub freshFault : List ℕ → ℕ
 freshFault image = firstFault (check 21 (not (eqb (length image) 129)) ∷ [])
 

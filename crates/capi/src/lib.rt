@@ -6,7 +6,8 @@ ghost use lib.IntN.{pos, negℤ};
 ghost use Rattle.wire.specs.Outcome.{answered};
 ghost use Rattle.message.specs.Message.{messageRead};
 ghost use Rattle.block.specs.Block.{blockRead, blockReadMemory, blockWrite, blockWriteMemory};
-ghost use Rattle.capi.specs.Imaged.{answerNumber, checkNumber, givenCount, imageKept, SampleImaged, BlockImaged};
+ghost use Rattle.engine.specs.Calls.{sampleCall, blockCall};
+ghost use Rattle.capi.specs.Imaged.{answerNumber, checkNumber, givenCount, imageKept, ImageMeets};
 ghost use Rattle.capi.specs.ImageDemand.{FreshImaged};
 use engine::Called;
 use image::Loading;
@@ -32,7 +33,7 @@ pub extern "C" fn yoldrim_fresh(memory: &mut [u8]) -> i32
 // Takes one sample, and answers how many messages were written.
 #[no_mangle]
 pub extern "C" fn yoldrim_sample(memory: &mut [u8], bytes: &[u8], out: &mut [u8]) -> i32
-    ensures { λ r. ⌜ SampleImaged (now (memory .entry)) (now (bytes .entry)) (now (out .entry)) r (now (memory .exit)) (now (out .exit)) ⌝ }
+    ensures { λ r. ⌜ ImageMeets (now (memory .entry)) (sampleCall (now (bytes .entry)) (now (out .entry))) r (now (memory .exit)) (now (out .exit)) ⌝ }
 {
     if bytes.len() != 20 {
         return -1;
@@ -53,7 +54,7 @@ pub extern "C" fn yoldrim_sample(memory: &mut [u8], bytes: &[u8], out: &mut [u8]
 // Takes all samples of a block or none, and answers how many messages were written.
 #[no_mangle]
 pub extern "C" fn yoldrim_block(memory: &mut [u8], bytes: &[u8], out: &mut [u8]) -> i32
-    ensures { λ r. ⌜ BlockImaged (now (memory .entry)) (now (bytes .entry)) (now (out .entry)) r (now (memory .exit)) (now (out .exit)) ⌝ }
+    ensures { λ r. ⌜ ImageMeets (now (memory .entry)) (blockCall (now (bytes .entry)) (now (out .entry))) r (now (memory .exit)) (now (out .exit)) ⌝ }
 {
     if bytes.len() != 512 {
         return -1;

@@ -10,4 +10,5 @@ pub mod Records
 pub mod Running
 pub mod SteadyStretch
 pub mod CallFaults
+pub mod OrderOfChecksHolds
 pub mod DemandHolds

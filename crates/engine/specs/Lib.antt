@@ -1,4 +1,5 @@
 pub mod Fits
 pub mod Steady
 pub mod Calls
+pub mod OrderOfChecks
 pub mod Demand

@@ -1,6 +1,7 @@
 -- The speed filter of document 01, "Standing still", in its words and order, and its range for refusal 21. Definitions only.
 -- They rest on the kit's account of binary32, `lib.Ieee`, where each operation rounds once.
 use Prim.Native.Nat.{ℕ, _≤_}
+use mathlib.Core.Path.{_≡_}
 use mathlib.Core.Bool.{Bool, true, false, _&&_, cond}
 use mathlib.Core.Logic.{_⊎_}
 use mathlib.Core.List.{List, List·Memᴰ, foldl}
@@ -76,3 +77,8 @@ isF32 (Running f) = fits binary32 f
 pub record Valid (s : Filter) : Type 0 where
   pub f32 : T (isF32 s)
   pub range : T (inRange s)
+
+-- the promise of `Filter::next`: the next filter, and "Always F lies between its old value and x", where F is one that readings can have led to
+pub record Moved (s : Filter) (reading : ℕ) (r : Filter) : Type 0 where
+  pub filter : r ≡ next s reading
+  pub between : (f g : Float) → s ≡ Running f → r ≡ Running g → T (inRange s) → reading ≤ 16382 → Between f (asF32 reading) g

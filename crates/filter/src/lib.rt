@@ -1,7 +1,7 @@
 // The speed filter of document 01, "Standing still": it smooths the readings of the speed in cm/s.
 ghost use mathlib.Core.Path.{_≡_};
 ghost use lib.Ieee.{binary32, toBits};
-ghost use Rattle.filter.specs.Filter.{asF32, blend, next, atMost8, inRange};
+ghost use Rattle.filter.specs.Filter.{asF32, blend, atMost8, inRange, Moved};
 
 // How a sample says that it has no reading of the speed.
 const NO_READING: u16 = 16383;
@@ -18,7 +18,7 @@ pub enum Filter {
 impl Filter {
     // The filter after one more sample. The value moves a quarter of the way to the reading.
     pub fn next(self, reading: u16) -> Filter
-        ensures { λ r. ⌜ r ≡ next self reading ⌝ }
+        ensures { λ r. ⌜ Moved self reading r ⌝ }
     {
         if reading == NO_READING {
             return self;

@@ -6,3 +6,4 @@ pub mod SavedParts
 pub mod StateAgain
 pub mod LoadOfSave
 pub mod Loaded
+pub mod OwnedEngine

@@ -1,6 +1,6 @@
 -- Loading what was saved gives the engine again, and an image that is accepted is byte for byte what saving makes.
 -- Assumes nothing.
-use mathlib.Core.Path.{_≡_}
+use mathlib.Core.Path.{_≡_, sym, ap, _∙_}
 use mathlib.Core.Bool.{true, _&&_}
 use mathlib.Core.List.{List}
 use Prim.Native.Nat.{ℕ}
@@ -16,8 +16,9 @@ use Rattle.filter.specs.Filter.{isF32}
 use Rattle.history.specs.declared.State.{State}
 use Rattle.history.specs.Ranges.{stateInRange}
 use Rattle.engine.specs.declared.Engine.{Engine}
+use Rattle.image.specs.declared.Loading.{Loading}
 use Rattle.image.proofs.SameBytes.{same-refl, same-equal}
-use Rattle.image.specs.Image.{imageOf, stateIn, sameBytes, isImage, imageRead, loading}
+use Rattle.image.specs.Image.{imageOf, stateIn, sameBytes, isImage, imageRead, loading, Saved, Loaded}
 use Rattle.image.proofs.SavedParts.{image-length}
 use Rattle.image.proofs.StateAgain.{state-in-image}
 
@@ -59,3 +60,12 @@ save-of-load s e r =
     let k = clear-first _ _ (λ z. omega arith) (c .0) in
     let i = is-image s (not-false (isImage s) (k .0)) in
     (rw (← c .1) (i .saved), rw (← c .1) (i .range))
+
+-- ---- the promises of `save` and of `load`, from what they make and find
+
+pub saved-promise : (e : Engine) (r : List ℕ) → T (isF32 (e .state .filter)) → r ≡ imageOf (e .state) → Saved e r
+saved-promise e r f32 h = record { image = h; loads-back = λ range. rw h (load-of-save e range f32) }
+
+pub loaded-promise : (image : List ℕ) (r : Loading) → loading r ≡ imageRead image → Loaded image r
+unfolding loading
+loaded-promise image r h = record { found = h; as-saved = λ e f. save-of-load image e (sym h ∙ ap loading f) .0 }

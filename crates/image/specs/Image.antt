@@ -1,6 +1,7 @@
 -- The engine's image of 129 bytes: what saving makes of an engine, what is read back from an image, and which bytes are an image.
 -- Assumes nothing. The value of a running filter is kept by its bits, as `lib.Ieee` gives them.
 use Prim.Native.Nat.{ℕ}
+use mathlib.Core.Path.{_≡_}
 use mathlib.Core.Bool.{Bool, true, false, not, _&&_, cond}
 use mathlib.Core.List.{List, [], _∷_, _++_}
 use lib.Dec.{eqb}
@@ -184,7 +185,7 @@ isImage s = eqb (length s) 129 && stateInRange (stateIn s) && sameBytes (imageOf
 abbrev pub engineIn : List ℕ → Engine
 engineIn s = record { state = stateIn s }
 
--- "An image that is no image of an engine within 21's ranges, or of another length, is refused with 21"
+-- refusal 21 for bytes that are no image
 unfoldable pub imageRead : List ℕ → Outcome Engine
 imageRead s = outcome (firstFault (check 21 (not (isImage s)) ∷ [])) (engineIn s)
 
@@ -192,3 +193,13 @@ imageRead s = outcome (firstFault (check 21 (not (isImage s)) ∷ [])) (engineIn
 unfoldable pub loading : Loading → Outcome Engine
 loading (Accepted e) = accepted e
 loading (Refused n) = refused n
+
+-- the promise of `save`: the image, and that it loads as the same engine, where that is within 21's ranges
+pub record Saved (e : Engine) (r : List ℕ) : Type 0 where
+  pub image : r ≡ imageOf (e .state)
+  pub loads-back : stateInRange (e .state) ≡ true → imageRead r ≡ accepted e
+
+-- the promise of `load`: what it finds, and that an accepted image is byte for byte what saving makes of its engine
+pub record Loaded (image : List ℕ) (r : Loading) : Type 0 where
+  pub found : loading r ≡ imageRead image
+  pub as-saved : (e : Engine) → r ≡ Accepted e → imageOf (e .state) ≡ image

@@ -2,8 +2,7 @@
 mod decoding;
 mod encoding;
 
-ghost use mathlib.Core.Path.{_≡_};
-ghost use Rattle.image.specs.Image.{imageOf, imageRead, loading};
+ghost use Rattle.image.specs.Image.{Saved, Loaded};
 use engine::Engine;
 
 // What loading finds: the engine, or the number that refuses the image.
@@ -13,7 +12,7 @@ pub enum Loading {
 }
 
 pub fn save(e: Engine) -> [u8; 129]
-    ensures { λ r. ⌜ r ≡ imageOf (e .state) ⌝ }
+    ensures { λ r. ⌜ Saved e r ⌝ }
 {
     let state = e.state;
     let log = state.log;
@@ -30,7 +29,7 @@ pub fn save(e: Engine) -> [u8; 129]
 
 // An image is accepted if saving its engine again makes the same bytes, and refusal 21 lets that engine pass.
 pub fn load(image: &[u8]) -> Loading
-    ensures { λ r. ⌜ loading r ≡ imageRead (now (image .entry)) ⌝ }
+    ensures { λ r. ⌜ Loaded (now (image .entry)) r ⌝ }
 {
     if image.len() != 129 {
         return Loading::Refused(21);

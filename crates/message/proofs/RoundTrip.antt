@@ -8,23 +8,27 @@ use native.Mathlib.Omega.{arith}
 use borrow.Author.Tests.{eq-eqb, eqb-true, not-false}
 use lib.Dec.{T, eqb, eqb→eq, nltb→le}
 use lib.IntN.{ℤ, pos, negsuc}
-use lib.ListN.{length, getD}
+use lib.ListN.{length, getD, take}
 use mir.Syntax.{w32}
 use mir.Val.{toZ, ofZ, SFits}
 use mir.Facts.{ofZ-toZ, fits-ofZ}
 use Rattle.wire.specs.Words.{little, bytesOf, bytesAt, word, Bytes}
-use Rattle.wire.specs.Outcome.{firstFault, outcome, accepted}
+use Rattle.wire.specs.declared.Answer.{Answer}
+use Rattle.wire.specs.Memory.{memory}
+use Rattle.wire.specs.Outcome.{firstFault, outcome, accepted, answered}
 use Rattle.wire.specs.Tests.{allHold}
 use Rattle.wire.proofs.Words.{little-bytesOf, bytesOf-word, word-below, bytesAt-all}
-use Rattle.wire.proofs.FirstFault.{accepted-clear, clear-first}
+use Rattle.wire.proofs.FirstFault.{accepted-clear, clear-first, memory-accepted}
+use Rattle.wire.proofs.Splice.{overlay-take}
 use Rattle.wire.proofs.Tests.{holds-at, holds-true, true-holds, neither}
 use lib.Ieee.Fits.{and-l, and-r}
 use Rattle.wire.proofs.TwosComplement.{signed-again}
 use Rattle.sample.specs.Sample.{outside, beyond}
 use Rattle.sample.specs.declared.Position.{Position}
 use Rattle.message.specs.Warnings.{rowOf, directionOf, validityOf}
-use Rattle.message.specs.Message.{encode, messageOf, derivedFit, admits, messageRead}
+use Rattle.message.specs.Message.{encode, messageOf, derivedFit, admits, messageRead, reading, writeFault, Found, Written}
 use Rattle.message.specs.declared.Message.{Message}
+use Rattle.message.specs.declared.Reading.{Reading}
 use Rattle.message.proofs.Admitted.{admitted}
 
 -- ---- written, then read
@@ -84,7 +88,8 @@ fields-made : (m : Message) (event detection reference heading validity : ℕ) (
     }) m
 fields-made m event detection reference heading validity position e d f p h v = simp (e, d, f, p, h, v)
 
-fields-again : (m : Message) → T (admits m) → messageOf (encode m) ≡ m
+-- the fields of a message that 14 lets pass are read from its bytes
+pub fields-again : (m : Message) → T (admits m) → messageOf (encode m) ≡ m
 unfolding messageOf encode bytesAt bytesOf
 fields-again m t =
     let a = admitted m t in
@@ -104,7 +109,7 @@ pub encode-length : (m : Message) → length (encode m) ≡ 32
 unfolding encode bytesOf
 encode-length m = refl
 
--- "What is written reads back the same": a message that 14 lets pass is read from its bytes
+-- what is written reads back the same: a message that 14 lets pass is read from its bytes
 pub written-reads-back : (m : Message) → T (admits m) → messageRead (encode m) ≡ accepted m
 unfolding messageRead firstFault outcome
 written-reads-back m t =
@@ -132,7 +137,7 @@ bytes-again s h l t =
     (bytesOf-word 4 s 8 h) (bytesOf-word 4 s 12 h) (bytesOf-word 4 s 16 h)
     (four-bytes s 20 h) (four-bytes s 24 h) (bytesOf-word 2 s 28 h) (bytesOf-word 2 s 30 h)
 
--- "what is accepted is byte for byte what the writer makes", and the writer takes it
+-- what is accepted is byte for byte what the writer makes, and the writer takes it
 pub accepted-is-written : (s : List ℕ) (m : Message) → Bytes s → messageRead s ≡ accepted m → (encode m ≡ s) × T (admits m)
 unfolding messageRead
 accepted-is-written s m h e =
@@ -144,3 +149,24 @@ accepted-is-written s m h e =
       rw (← c .1) (bytes-again s h size (and-l (derivedFit s) (admits (messageOf s)) both)),
       rw (← c .1) (and-r (derivedFit s) (admits (messageOf s)) both),
     )
+
+-- ---- the promises of the reader and of the writer, from what they find and make
+
+pub found-promise : (s : List ℕ) (r : Reading) → Bytes s → reading r ≡ messageRead s → Found s r
+unfolding reading
+found-promise s r h e = record { found = e; as-written = λ m f. accepted-is-written s m h (sym e ∙ ap reading f) .0 }
+
+pub written-promise : (m : Message) (out : List ℕ) (r : Answer) (last : List ℕ)
+    → (answered r ≡ outcome (writeFault m (length out)) 1) × (last ≡ memory (writeFault m (length out)) (encode m) out)
+    → Written m out r last
+unfolding answered writeFault
+written-promise m out r last p = record {
+  answer = p .0;
+  output = p .1;
+  reads-back = λ n f.
+      let c = accepted-clear (writeFault m (length out)) 1 n (sym (p .0) ∙ ap answered f) in
+      let k = clear-first _ _ (λ z. omega arith) (c .0) in
+      let l = clear-first _ _ (λ z. omega arith) (k .1) in
+      let w : take 32 last ≡ encode m = ap (take 32) (p .1 ∙ memory-accepted (writeFault m (length out)) (encode m) out (c .0)) ∙ rw (← encode-length m) (overlay-take (encode m) out) in
+      ap messageRead w ∙ written-reads-back m (true-holds _ (not-false (admits m) (l .0)));
+}

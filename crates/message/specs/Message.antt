@@ -1,22 +1,26 @@
 -- The 32-byte message: its bytes, its fields, what refusal 14 lets pass, its reading and its writing, after document 01, "The message" and "What is turned down".
 -- Assumes nothing.
 use Prim.Native.Nat.{ℕ}
+use mathlib.Core.Path.{_≡_}
 use mathlib.Core.Bool.{Bool, not, _&&_, _||_, true, false}
 use mathlib.Core.List.{List, [], _∷_, _++_}
 use lib.Dec.{ltb, leb, eqb}
-use lib.ListN.{length, getD}
+use lib.ListN.{length, getD, take}
 use mir.Syntax.{w32}
 use mir.Val.{toZ, ofZ}
 use Rattle.wire.specs.Words.{word, bytesOf}
 use Rattle.wire.specs.Tests.{allHold}
-use Rattle.wire.specs.Outcome.{check, firstFault, Outcome, accepted, refused, outcome}
+use Rattle.wire.specs.declared.Answer.{Answer}
+use Rattle.wire.specs.declared.Answer.the-variants.{Given}
+use Rattle.wire.specs.Memory.{memory}
+use Rattle.wire.specs.Outcome.{check, firstFault, Outcome, accepted, refused, outcome, answered}
 use Rattle.sample.specs.Sample.{beyond}
 use Rattle.message.specs.Warnings.{rowOf, validityOf, directionOf}
 use Rattle.message.specs.declared.Message.{Message}
 use Rattle.message.specs.declared.Reading.{Reading}
 use Rattle.message.specs.declared.Reading.the-variants.{Accepted, Refused}
 
--- "32 bytes, little-endian: 0 kind; 1 warning; 2 sub cause; 3 cause; 4 quality; 5 roadType; 6 direction; 7 stationarySince; 8-11 event; 12-15 detection tick; 16-19 reference tick; 20-27 east, north; 28-29 heading; 30-31 validity"
+-- "32 bytes, little-endian: 0 kind .. 1 warning; 2 sub cause .. 3 cause 94; 4 quality; 5 roadType .. 6 direction .. 7 stationarySince; 8-11 event .. 12-15 detection tick; 16-19 reference tick; 20-27 east, north; 28-29 heading; 30-31 validity in seconds"
 unfoldable pub encode : Message → List ℕ
 encode m =
     (m .kind
@@ -110,3 +114,14 @@ reading (Refused n) = refused n
 -- "the writer (32 bytes of output) by 2, 14": the number of the first failing check with n bytes of output
 unfoldable pub writeFault : Message → ℕ → ℕ
 writeFault m n = firstFault (check 2 (ltb n 32) ∷ check 14 (not (admits m)) ∷ [])
+
+-- the reader's promise: what it finds, and that accepted bytes are what the writer makes of the message
+pub record Found (bytes : List ℕ) (r : Reading) : Type 0 where
+  pub found : reading r ≡ messageRead bytes
+  pub as-written : (m : Message) → r ≡ Accepted m → encode m ≡ bytes
+
+-- the writer's promise: its answer, the output after it, and that what is written reads back the same
+pub record Written (m : Message) (out : List ℕ) (r : Answer) (last : List ℕ) : Type 0 where
+  pub answer : answered r ≡ outcome (writeFault m (length out)) 1
+  pub output : last ≡ memory (writeFault m (length out)) (encode m) out
+  pub reads-back : (n : ℕ) → r ≡ Given n → messageRead (take 32 last) ≡ accepted m

@@ -1,10 +1,8 @@
 // The 32-byte message record: its reader, its writer, and what its fields are by warning and by road.
 ghost use mathlib.Core.Path.{_≡_};
 ghost use lib.ListN.{length};
-ghost use Rattle.wire.specs.Outcome.{outcome, answered};
-ghost use Rattle.wire.specs.Memory.{memory};
 ghost use Rattle.message.specs.Warnings.{rowOf, validityOf, roadTypeOf, directionOf};
-ghost use Rattle.message.specs.Message.{messageOf, encode, admits, derivedFit, messageRead, reading, writeFault};
+ghost use Rattle.message.specs.Message.{messageOf, encode, admits, derivedFit, Found, Written};
 use sample::Position;
 use wire::Answer;
 
@@ -67,7 +65,7 @@ const ROWS: [Row; 3] = [
 ];
 
 pub fn read(bytes: &[u8]) -> Reading
-    ensures { λ r. ⌜ reading r ≡ messageRead (now (bytes .entry)) ⌝ }
+    ensures { λ r. ⌜ Found (now (bytes .entry)) r ⌝ }
 {
     if bytes.len() != 32 {
         return Reading::Refused(13);
@@ -81,7 +79,7 @@ pub fn read(bytes: &[u8]) -> Reading
 }
 
 pub fn write(m: Message, out: &mut [u8]) -> Answer
-    ensures { λ r. ⌜ (answered r ≡ outcome (writeFault m (length (now (out .entry)))) 1) × (now (out .exit) ≡ memory (writeFault m (length (now (out .entry)))) (encode m) (now (out .entry))) ⌝ }
+    ensures { λ r. ⌜ Written m (now (out .entry)) r (now (out .exit)) ⌝ }
 {
     if out.len() < 32 {
         return Answer::Refused(2);

@@ -36,7 +36,7 @@ same-length c = search needs
 
 returns-2 : tie.Need-returns-2
 unfolding imageKept answered
-returns-2 c = (given-number _ _ (c .before .before .before .before .before .before .before .before .answer2 .given .1) (c .before .before .before .before .before .before .before .before .before .before .before .pre), rw (c .before .before .before .before .before .before .before .before .answer2 .given .1, ← c .before .before .before .before .before .save .ensures) (c .before .before .copy-at .ensures))
+returns-2 c = (given-number _ _ (c .before .before .before .before .before .before .before .before .answer2 .given .1) (c .before .before .before .before .before .before .before .before .before .before .before .pre), rw (c .before .before .before .before .before .before .before .before .answer2 .given .1, ← c .before .before .before .before .before .save .ensures .image) (c .before .before .copy-at .ensures))
 
 pub finish-spec : {M : Type 1} → statement M
 finish-spec =

@@ -10,13 +10,13 @@ read-requires : tie.Need-read-requires
 read-requires c κs = search needs
 
 number-requires : tie.Need-number-requires
-number-requires c κs = read-count _ _ _ (c .before .before .read .ensures .0)
+number-requires c κs = read-count _ _ _ (c .before .before .read .ensures .answer)
 
 same-length : tie.Need-same-length
 same-length c = search needs
 
 returns : tie.Need-returns
-returns c = (again _ _ (record { sfits = c .number .ok }) (c .number .ensures ∙ ap answerNumber (c .before .before .before .read .ensures .0)), c .before .before .before .read .ensures .1)
+returns c = (again _ _ (record { sfits = c .number .ok }) (c .number .ensures ∙ ap answerNumber (c .before .before .before .read .ensures .answer)), c .before .before .before .read .ensures .output)
 
 pub yoldrim-block-read-spec : {M : Type 1} → statement M
 yoldrim-block-read-spec = tie.close (tie.spec read-requires number-requires same-length returns)

@@ -16,10 +16,10 @@ minus-requires : tie.Need-minus-requires
 minus-requires c κs = search needs
 
 returns : tie.Need-returns
-returns c = check-accepted _ _ (c .before .before .read .ensures) _ (c .enum-told .given .1)
+returns c = check-accepted _ _ (c .before .before .read .ensures .found) _ (c .enum-told .given .1)
 
 returns-2 : tie.Need-returns-2
-returns-2 c = check-refused _ _ (c .before .before .before .before .read .ensures) _ _ (c .before .before .reading .given .1) (record { sfits = c .minus .ok }) (c .minus .ensures)
+returns-2 c = check-refused _ _ (c .before .before .before .before .read .ensures .found) _ _ (c .before .before .reading .given .1) (record { sfits = c .minus .ok }) (c .minus .ensures)
 
 pub yoldrim-message-check-spec : {M : Type 1} → statement M
 yoldrim-message-check-spec =

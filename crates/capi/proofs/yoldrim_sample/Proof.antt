@@ -1,17 +1,23 @@
-use mathlib.Core.Path.{refl}
+use mathlib.Core.Path.{refl, ap}
+use mathlib.Core.Bool.{not}
 use native.Mathlib.Omega.{arith}
+use Rattle.engine.specs.Calls.{lent, callFault}
+use Rattle.engine.proofs.CallFaults.{sample-length, sample-room, sample-range}
 use Rattle.image.proofs.Loaded.{accepted-image, refused-image}
-use Rattle.capi.proofs.Counts.{sample-count}
-use Rattle.capi.proofs.ImageCalls.{image-refused, sample-length, sample-room, sample-image, sample-meets}
+use Rattle.capi.specs.Imaged.{imageFault}
+use Rattle.capi.proofs.Counts.{call-count}
+use Rattle.capi.proofs.ImageCalls.{image-refused, image-meets}
 use borrow.Author.Needs.{needs}
 use Rattle.capi.proofs.yoldrim_sample.Statement.{statement}
 use Rattle.capi.proofs.yoldrim_sample.Tie as tie
 
 returns : tie.Need-returns
-returns c = image-refused _ _ _ _ 1 _ (sample-length _ _ _ (c .if1 .taken)) (λ z. omega arith) refl
+unfolding imageFault callFault lent
+returns c = image-refused _ _ 1 _ (sample-length _ _ _ _ (c .if1 .taken)) (λ z. omega arith) refl
 
 returns-2 : tie.Need-returns-2
-returns-2 c = image-refused _ _ _ _ 2 _ (sample-room _ _ _ (c .before .if1 .left) (c .if2 .taken)) (λ z. omega arith) refl
+unfolding imageFault callFault lent
+returns-2 c = image-refused _ _ 2 _ (sample-room _ _ _ _ (c .before .if1 .left) (c .if2 .taken)) (λ z. omega arith) refl
 
 load-requires : tie.Need-load-requires
 load-requires c κs = search needs
@@ -26,13 +32,14 @@ step-requires : tie.Need-step-requires
 step-requires c κs = search needs
 
 finish-requires : tie.Need-finish-requires
-finish-requires c κs = sample-count _ _ _ _ (c .before .before .before .step .ensures .answer)
+finish-requires c κs = call-count _ _ _ (c .before .before .before .step .ensures .answer)
 
 same-length : tie.Need-same-length
 same-length c = search needs
 
 returns-3 : tie.Need-returns-3
-returns-3 c = image-refused _ _ _ _ 21 _ (sample-image _ _ _ (c .before .before .before .before .before .if1 .left) (c .before .before .before .before .if2 .left) (refused-image _ _ (c .before .before .load .ensures) _ (c .enum-told .given .1))) (λ z. omega arith) refl
+unfolding imageFault callFault lent
+returns-3 c = image-refused _ _ 21 _ (sample-range _ _ _ _ (c .before .before .before .before .before .if1 .left) (c .before .before .before .before .if2 .left) (ap not (refused-image _ _ (c .before .before .load .ensures .found) _ (c .enum-told .given .1)))) (λ z. omega arith) refl
 
 same-length-2 : tie.Need-same-length-2
 same-length-2 c = search needs
@@ -41,8 +48,8 @@ same-length-3 : tie.Need-same-length-3
 same-length-3 c = search needs
 
 returns-4 : tie.Need-returns-4
-returns-4 c = let a = accepted-image _ _ (c .before .before .before .before .before .before .before .before .before .before .before .load .ensures) _ (c .before .before .before .before .before .before .before .before .before .loading .given .1) in
-    sample-meets _ _ _ (a .0) _ (a .1) _ _ _ _ (record { sfits = c .before .before .finish .ok }) (c .before .before .finish .ensures) (c .before .before .before .before .before .before .step .ensures)
+returns-4 c = let a = accepted-image _ _ (c .before .before .before .before .before .before .before .before .before .before .before .load .ensures .found) _ (c .before .before .before .before .before .before .before .before .before .loading .given .1) in
+    image-meets _ _ (a .0) _ (a .1) _ _ _ _ (record { sfits = c .before .before .finish .ok }) (c .before .before .finish .ensures) (c .before .before .before .before .before .before .step .ensures)
 
 pub yoldrim-sample-spec : {M : Type 1} → statement M
 yoldrim-sample-spec =

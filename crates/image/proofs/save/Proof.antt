@@ -1,4 +1,6 @@
 use mathlib.Core.Path.{refl}
+use Rattle.image.proofs.LoadOfSave.{saved-promise}
+use Rattle.image.proofs.OwnedEngine.{owned-engine}
 use Rattle.image.proofs.SavedParts.{parts-saved}
 use borrow.Author.Needs.{needs}
 use Rattle.image.proofs.save.Statement.{statement}
@@ -41,7 +43,12 @@ copy-at-requires-2 : tie.Need-copy-at-requires-2
 copy-at-requires-2 c κs = search needs
 
 returns : tie.Need-returns
-returns c = parts-saved _ _ _ _ _ _ _ _ refl (c .before .before .before .before .before .before .before .before .before .before .before .before .before .before .words-of .ensures) (c .before .before .before .before .before .before .before .before .before .before .before .before .before .flags-of .ensures) (c .before .before .before .before .before .before .before .before .before .before .before .before .standing-bytes .ensures) (c .before .before .before .before .before .before .before .before .before .put-words .ensures) (c .before .before .before .before .before .copy-at .ensures) (c .before .copy-at2 .ensures)
+returns c =
+    let start = c .before .before .before .before .before .before .before .before .before .before .before .before .before .before .before .before .before in
+    let parts = c .before .before .before .before .before .before .before .before .before .before .before .before in
+    saved-promise (start .args .e) _ (owned-engine (start .args .e) _ (start .good .0))
+    (parts-saved _ _ _ _ _ _ _ _ refl (parts .before .before .words-of .ensures) (parts .before .flags-of .ensures) (parts .standing-bytes .ensures)
+    (c .before .before .before .before .before .before .before .before .before .put-words .ensures) (c .before .before .before .before .before .copy-at .ensures) (c .before .copy-at2 .ensures))
 
 pub save-spec : {M : Type 1} → statement M
 save-spec =

@@ -10,6 +10,7 @@ use Rattle.wire.specs.Outcome.{firstFault, outcome, answered}
 use Rattle.wire.specs.Memory.{memory, overlay}
 use Rattle.wire.proofs.Splice.{splice-overlay}
 use Rattle.message.specs.Message.{writeFault, encode}
+use Rattle.message.proofs.RoundTrip.{written-promise}
 use borrow.Author.Needs.{needs}
 use Rattle.message.proofs.write.Statement.{statement}
 use Rattle.message.proofs.write.Tie as tie
@@ -22,14 +23,14 @@ written m bytes out after e f h = f ∙ rw e (splice-overlay out (encode m) h)
 
 returns : tie.Need-returns
 unfolding answered writeFault firstFault outcome memory
-returns c = simp (lt-ltb _ _ (c .if1 .taken)) (refl, refl)
+returns c = written-promise _ _ _ _ (simp (lt-ltb _ _ (c .if1 .taken)) (refl, refl))
 
 is-admitted-requires : tie.Need-is-admitted-requires
 is-admitted-requires c κs = search needs
 
 returns-2 : tie.Need-returns-2
 unfolding answered writeFault firstFault outcome memory
-returns-2 c = simp (le-ltb _ _ (c .before .before .if1 .left), ← c .before .is-admitted .ensures, c .if2 .taken) (refl, refl)
+returns-2 c = written-promise _ _ _ _ (simp (le-ltb _ _ (c .before .before .if1 .left), ← c .before .is-admitted .ensures, c .if2 .taken) (refl, refl))
 
 encoded-requires : tie.Need-encoded-requires
 encoded-requires c κs = search needs
@@ -45,8 +46,8 @@ same-length c = search needs
 
 returns-3 : tie.Need-returns-3
 unfolding answered writeFault firstFault outcome memory
-returns-3 c = simp (le-ltb _ _ (c .before .before .before .before .before .before .before .before .if1 .left), ← c .before .before .before .before .before .before .before .is-admitted .ensures, c .before .before .before .before .before .before .if2 .left)
-    (refl, written _ _ _ _ (c .before .before .before .before .before .encoded .ensures) (c .before .before .copy-at .ensures) (c .before .before .before .before .before .before .before .before .if1 .left))
+returns-3 c = written-promise _ _ _ _ (simp (le-ltb _ _ (c .before .before .before .before .before .before .before .before .if1 .left), ← c .before .before .before .before .before .before .before .is-admitted .ensures, c .before .before .before .before .before .before .if2 .left)
+    (refl, written _ _ _ _ (c .before .before .before .before .before .encoded .ensures) (c .before .before .copy-at .ensures) (c .before .before .before .before .before .before .before .before .if1 .left)))
 
 pub write-spec : {M : Type 1} → statement M
 write-spec =

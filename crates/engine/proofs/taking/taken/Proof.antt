@@ -41,7 +41,7 @@ absent-after-requires : tie.Need-absent-after-requires
 absent-after-requires c κs = absent-fit _ (c .before .before .before .before .before .before .before .before .before .before .before .before .before .before .before .before .before .before .before .pre .fits) (omega (arith, c .before .before .before .before .before .before .before .before .before .before .before .before .before .before .before .before .before .before .before .pre .room))
 
 returns : tie.Need-returns
-returns c = taken-made _ _ _ _ _ _ _ _ _ _ _ _ _ (c .before .before .before .before .before .before .before .before .before .before .before .before .before .before .before .before .before .before .before .switches-on .ensures) (c .before .before .before .before .before .before .before .before .before .before .before .before .before .before .before .before .before .before .next .ensures) (c .before .before .before .before .before .before .before .before .before .before .before .before .before .before .before .before .before .is-still .ensures) (c .before .before .before .before .before .before .before .before .before .before .before .before .before .before .before .runs-after .ensures) (c .before .before .before .before .before .before .before .before .before .before .before .before .before .before .conditions-at .ensures) (c .before .before .before .before .before .before .before .before .before .before .before .before .standing-rank .ensures) (c .before .before .before .before .before .before .before .go-on .ensures) (c .before .before .before .before .before .before .go-on2 .ensures) (c .before .before .before .cycle-after .ensures) (c .before .cycle-after2 .ensures) (c .absent-after .ensures)
+returns c = taken-made _ _ _ _ _ _ _ _ _ _ _ _ _ (c .before .before .before .before .before .before .before .before .before .before .before .before .before .before .before .before .before .before .before .switches-on .ensures) (c .before .before .before .before .before .before .before .before .before .before .before .before .before .before .before .before .before .before .next .ensures .filter) (c .before .before .before .before .before .before .before .before .before .before .before .before .before .before .before .before .before .is-still .ensures) (c .before .before .before .before .before .before .before .before .before .before .before .before .before .before .before .runs-after .ensures) (c .before .before .before .before .before .before .before .before .before .before .before .before .before .before .conditions-at .ensures) (c .before .before .before .before .before .before .before .before .before .before .before .before .standing-rank .ensures) (c .before .before .before .before .before .before .before .go-on .ensures) (c .before .before .before .before .before .before .go-on2 .ensures) (c .before .before .before .cycle-after .ensures) (c .before .cycle-after2 .ensures) (c .absent-after .ensures)
 
 pub taken-spec : {M : Type 1} → statement M
 taken-spec =

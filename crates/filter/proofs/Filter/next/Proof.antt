@@ -2,12 +2,14 @@ use mathlib.Core.Path.{sym}
 use Rattle.filter.specs.Filter.{withReading}
 use Rattle.filter.specs.declared.Filter.the-variants.{Empty, Running}
 use Rattle.filter.proofs.NextLaws.{next-missing, next-reading}
+use Rattle.filter.proofs.Between.{moved}
+use Rattle.filter.proofs.OwnedFilter.{owned-f32}
 use borrow.Author.Needs.{needs}
 use Rattle.filter.proofs.Filter.next.Statement.{statement}
 use Rattle.filter.proofs.Filter.next.Tie as tie
 
 returns : tie.Need-returns
-returns c = simp ((c .if1 .taken), next-missing)
+returns c = moved _ _ _ (owned-f32 _ _ (c .before .good .0)) (simp ((c .if1 .taken), next-missing))
 
 enum-told : tie.Need-enum-told
 enum-told c = search needs
@@ -23,11 +25,13 @@ blended-requires c κs = search needs
 
 returns-2 : tie.Need-returns-2
 unfolding withReading
-returns-2 c = simp (c .before .enum-told .given .1) (sym (next-reading Empty _ (c .before .before .before .if1 .left)))
+returns-2 c = moved _ _ _ (owned-f32 _ _ (c .before .before .before .before .good .0))
+    (simp (c .before .enum-told .given .1) (sym (next-reading Empty _ (c .before .before .before .if1 .left))))
 
 returns-3 : tie.Need-returns-3
 unfolding withReading
-returns-3 c = simp ((c .before .before .self .given .1), (c .blended .ensures)) (sym (next-reading (Running (c .before .before .self .given .0 .0)) _ (c .before .before .before .before .if1 .left)))
+returns-3 c = moved _ _ _ (owned-f32 _ _ (c .before .before .before .before .before .good .0))
+    (simp ((c .before .before .self .given .1), (c .blended .ensures)) (sym (next-reading (Running (c .before .before .self .given .0 .0)) _ (c .before .before .before .before .if1 .left))))
 
 pub next-spec : {M : Type 1} → statement M
 next-spec =

@@ -16,10 +16,10 @@ enum-told : tie.Need-enum-told
 enum-told c = search needs
 
 returns-2 : tie.Need-returns-2
-returns-2 c = standing-read _ _ _ (c .before .before .before .before .if1 .left) (c .before .before .before .read .ensures) _ (c .before .reading .given .1)
+returns-2 c = standing-read _ _ _ (c .before .before .before .before .if1 .left) (c .before .before .before .read .ensures .found) _ (c .before .reading .given .1)
 
 returns-3 : tie.Need-returns-3
-returns-3 c = standing-refused _ _ _ (c .before .before .before .if1 .left) (c .before .before .read .ensures) _ (c .enum-told .given .1)
+returns-3 c = standing-refused _ _ _ (c .before .before .before .if1 .left) (c .before .before .read .ensures .found) _ (c .enum-told .given .1)
 
 pub standing-in-spec : {M : Type 1} → statement M
 standing-in-spec =
