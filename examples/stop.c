@@ -1,5 +1,5 @@
 /* A stop: 301 samples, speed 0, hazard lights and ignition on, forward gear. Warning 1 is given at tick 300.
- * Build: cc -I include examples/stop.c target/staticlib/libcapi.a -o target/stop */
+ * Build: make lib && cc -I target examples/stop.c target/libyoldrim.a -o target/stop */
 #include "yoldrim.h"
 #include <stdio.h>
 

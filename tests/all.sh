@@ -8,16 +8,8 @@ rounds=${1:-250}
 log=$(mktemp)
 trap 'rm -f "$log"' EXIT
 
-if ! rt ci > "$log" 2>&1; then
-    cat "$log"
-    exit 1
-fi
-head -n -1 "$log"
-
-for recording in examples/*.bin; do
-    target/bin/yoldrim < "$recording" | diff - "${recording%.bin}.txt"
-    echo "$recording: as expected"
-done
+bash tests/progress.sh "$log" rt ci
+bash tests/recordings.sh
 
 # A tool that is missing is named; under CI it is an error.
 have() {
@@ -27,15 +19,21 @@ have() {
     return 1
 }
 
-rt staticlib capi > /dev/null
+make --no-print-directory lib
 if have cc "the C example"; then
-    cc -O2 -Wall -Wextra -Werror -I include -o target/stop examples/stop.c target/staticlib/libcapi.a
+    cc -O2 -Wall -Wextra -Werror -I target -o target/stop examples/stop.c target/libyoldrim.a
     target/stop
 fi
 
 if have cargo "the comparison with the second implementation"; then
     (cd tests && cargo test --offline --release --quiet && cargo build --offline --release --quiet)
     tests/target/release/compare library "$rounds"
+    mkdir -p target/examples
+    tests/target/release/recordings target/examples
+    for made in target/examples/*; do
+        cmp "$made" "examples/${made##*/}"
+    done
+    echo "the example recordings: as the second implementation prints them"
     for seed in 1 2 3 4; do
         tests/target/release/bench generate 50000 "$seed" target/day.bin
         tests/target/release/bench lines < target/day.bin > target/day.txt

@@ -4,7 +4,6 @@
 # Usage: tests/bench.sh [TICKS]
 set -euo pipefail
 cd "$(dirname "$0")/.."
-rt staticlib capi > /dev/null 2>&1
 (cd tests && cargo build --offline --release --quiet)
 tests/target/release/bench generate "${1:-4000000}" 1 target/bench.bin
 tests/target/release/bench ratio target/bin/yoldrim target/bench.bin 25

@@ -1,14 +1,14 @@
 //! Links the proved static library when it has been made, and tells the
 //! programs the size of an engine's image.
 //!
-//! `../target/staticlib/libcapi.a` is the library; the size stands in
+//! `../target/libyoldrim.a` is the library; the size stands in
 //! `../include/yoldrim.h`, or in the environment variable
 //! `YOLDRIM_ENGINE_BYTES`, which governs. Without the library everything else
 //! still builds; a program asked to use it then says so and fails.
 
 use std::{env, fs, path::Path};
 
-const LIBRARY_FOLDER: &str = "../target/staticlib";
+const LIBRARY_FOLDER: &str = "../target";
 const HEADER: &str = "../include/yoldrim.h";
 const SIZE_NAME: &str = "YOLDRIM_ENGINE_BYTES";
 
@@ -16,7 +16,7 @@ fn main() {
     let root = env::var("CARGO_MANIFEST_DIR").expect("Cargo names the project's folder");
     let folder = Path::new(&root).join(LIBRARY_FOLDER);
     let header = Path::new(&root).join(HEADER);
-    let library = folder.join("libcapi.a");
+    let library = folder.join("libyoldrim.a");
 
     println!("cargo:rustc-check-cfg=cfg(library)");
     println!("cargo:rerun-if-env-changed={SIZE_NAME}");
@@ -32,7 +32,7 @@ fn main() {
     println!("cargo:rustc-cfg=library");
     println!("cargo:rustc-env={SIZE_NAME}={bytes}");
     println!("cargo:rustc-link-search=native={}", folder.display());
-    println!("cargo:rustc-link-lib=static=capi");
+    println!("cargo:rustc-link-lib=static=yoldrim");
 }
 
 /// The number in the header's line `#define YOLDRIM_ENGINE_BYTES n`.

@@ -266,7 +266,7 @@ fn add_library(units: &mut Units) {
 
 #[cfg(not(library))]
 fn add_library(_units: &mut Units) {
-    println!("built without the library (../target/staticlib/libcapi.a)");
+    println!("built without the library (../target/libyoldrim.a)");
 }
 
 /// Times all units on one day, in turns.

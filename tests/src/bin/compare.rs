@@ -47,7 +47,7 @@ fn usage() -> ExitCode {
 
 #[cfg(not(library))]
 fn compare_library(_rounds: u64) -> ExitCode {
-    eprintln!("compare: built without the library (../target/staticlib/libcapi.a)");
+    eprintln!("compare: built without the library (../target/libyoldrim.a)");
     ExitCode::FAILURE
 }
 
