@@ -21,3 +21,4 @@ pub mod StopsComputed
 pub mod BenchStopsHold
 pub mod FurtherStopsHold
 pub mod MessagesInWords
+pub mod InWordsHold

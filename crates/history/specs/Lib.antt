@@ -4,5 +4,6 @@ pub mod State
 pub mod Ranges
 pub mod Standing
 pub mod TickWords
+pub mod InWords
 pub mod BenchStops
 pub mod FurtherStops

@@ -6,6 +6,9 @@ use mathlib.Core.Bool.{Bool, true, false, _&&_, cond}
 use mathlib.Core.List.{List, [], _∷_, _++_}
 use Prim.Native.Nat.{ℕ, _+_, _-_, _*_, _≤_, _<_}
 use lib.Dec.{eqb}
+use lib.IntN.{pos, _+ℤ_, _-ℤ_, _*ℤ_}
+use lib.Signed.{_<ℤ_}
+use Rattle.sample.specs.declared.Position.{Position}
 use Rattle.message.specs.declared.Message.{Message}
 use Rattle.history.specs.declared.View.{View}
 use Rattle.history.specs.Rules.{Settings, rank, overrules}
@@ -129,6 +132,13 @@ pub record Highest (h : Past) (f i q : ℕ) : Type 0 where
 abbrev pub DrivenOff : ℕ → ℕ → Past → ℕ → Type 0
 DrivenOff d n h i = Held d (never stationary) h i × (n + d ≤ i)
 
+-- "position more than 5,000 dm from that of the last New or Update, compared by squares": p from q, over the integers
+abbrev pub MoreThan5000 : Position → Position → Type 0
+MoreThan5000 p q =
+    let east = p .east -ℤ q .east in
+    let north = p .north -ℤ q .north in
+    pos (5000 * 5000) <ℤ (east *ℤ east +ℤ north *ℤ north)
+
 -- "ignition off now and on at the tick before"
 pub record SwitchedOffNow (h : Past) (i : ℕ) : Type 0 where
   pub off : atTick (never ignited) h i ≡ true
@@ -143,6 +153,28 @@ pub record SinceCode (ticks code : ℕ) : Type 0 where
   pub below-2 : 600 ≤ ticks → ticks < 1200 → code ≡ 1
   pub below-15 : 1200 ≤ ticks → ticks < 9000 → code ≡ 2
   pub from-15 : 9000 ≤ ticks → code ≡ 3
+
+-- "3 Cancel", "Cancel repeats bytes 4-15 and 20-31 of the last New or Update": c is a Cancel at tick i, and has each other field of m
+pub record Repeats (m : Message) (i : ℕ) (c : Message) : Type 0 where
+  pub kind : c .kind ≡ 3
+  pub warning : c .warning ≡ m .warning
+  pub quality : c .quality ≡ m .quality
+  pub roadtype : c .roadtype ≡ m .roadtype
+  pub since : c .since ≡ m .since
+  pub event : c .event ≡ m .event
+  pub detection : c .detection ≡ m .detection
+  pub reference : c .reference ≡ i
+  pub position : c .position ≡ m .position
+  pub heading : c .heading ≡ m .heading
+  pub validity : c .validity ≡ m .validity
+
+-- "2 Update", "New and Update have detection = reference = now": u is an Update at tick i, with the warning and the event of m
+pub record Updates (m : Message) (i : ℕ) (u : Message) : Type 0 where
+  pub kind : u .kind ≡ 2
+  pub warning : u .warning ≡ m .warning
+  pub event : u .event ≡ m .event
+  pub detection : u .detection ≡ i
+  pub reference : u .reference ≡ i
 
 -- ---- rule 1
 
