@@ -6,6 +6,7 @@ pub mod NineThenEights
 pub mod NextLaws
 pub mod OwnedFilter
 pub mod FloatBits
+pub mod ExamplesHold
 -- What they are proved with
 mod BlendOutcome
 mod RangeUnits

@@ -2,3 +2,4 @@ pub mod Table
 pub mod Admitted
 pub mod RoundTrip
 pub mod DerivedAdmitted
+pub mod ExamplesHold

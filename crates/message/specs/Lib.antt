@@ -1,2 +1,3 @@
 pub mod Warnings
 pub mod Message
+pub mod Examples

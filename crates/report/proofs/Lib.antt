@@ -2,4 +2,4 @@ pub mod Decimal
 pub mod Placed
 pub mod LineLengths
 pub mod LineWritten
-pub mod Examples
+pub mod ExamplesHold

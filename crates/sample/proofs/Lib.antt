@@ -1,3 +1,4 @@
 pub mod Limits
 pub mod SampleRead
 pub mod AcceptedFields
+pub mod ExamplesHold
