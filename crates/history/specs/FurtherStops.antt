@@ -2,10 +2,10 @@
 -- Assumes nothing.
 use mathlib.Core.Path.{_≡_}
 use mathlib.Core.List.{List, [], _∷_}
-use Prim.Native.Nat.{ℕ}
+use Prim.Native.Nat.{ℕ, _+_}
 use lib.IntN.{pos}
 use Rattle.message.specs.declared.Message.{Message}
-use Rattle.history.specs.BenchStops.{Change, hazard, ignition, brake, door, ecall, highSeverity, park, forward, withSpeed, withGear, withHappening, switchOn, switchOff, atAlone, from, upTo, line, N, U, C, messagesUpTo, linesUpTo}
+use Rattle.history.specs.BenchStops.{Change, hazard, ignition, brake, door, ecall, highSeverity, park, forward, withSpeed, withGear, withHappening, switchOn, switchOff, atAlone, from, upTo, Line, line, N, U, C, messagesUpTo, linesUpTo}
 
 -- "7 switches, .. 3 driver's belt buckled, .. 5 boot open, 6 bonnet open, 7 breakdown message shown"
 abbrev pub belt : ℕ
@@ -27,9 +27,15 @@ lowSeverity = 2
 abbrev pub pedestrian : ℕ
 pedestrian = 4
 
--- "6 gear: .. 2 idle"
+-- "6 gear: 0 unknown, .. 2 idle, .. 4 reverse"
+abbrev pub unknown : ℕ
+unknown = 0
+
 abbrev pub idle : ℕ
 idle = 2
+
+abbrev pub reverse : ℕ
+reverse = 4
 
 -- "16,383 = no reading"
 abbrev pub noReading : ℕ
@@ -39,25 +45,54 @@ unfoldable pub withPlace : ℕ → ℕ → ℕ → ℕ → Change
 withPlace road heading east north x =
     record { tick = x .tick; speed = x .speed; gear = x .gear; switches = x .switches; happenings = x .happenings; road = road; heading = heading; position = record { east = pos east; north = pos north } }
 
--- a message of warning 2, event 1, east and north of the start
-abbrev pub ofBrokenDown : ℕ → ℕ → ℕ → ℕ → ℕ → ℕ → ℕ → ℕ → Message
-ofBrokenDown kind roadtype detection reference east north heading validity = record {
-  kind = kind;
-  warning = 2;
-  quality = 2;
-  roadtype = roadtype;
-  since = 0;
-  event = 1;
+-- where a message is from: "5 roadType", "20-27 east, north; 28-29 heading"
+pub record Place : Type 0 where
+  pub roadtype : ℕ
+  pub heading : ℕ
+  pub east : ℕ
+  pub north : ℕ
+
+abbrev pub place : ℕ → ℕ → ℕ → ℕ → Place
+place roadtype heading east north = record { roadtype = roadtype; heading = heading; east = east; north = north }
+
+-- a whole message: its line, "12-15 detection tick", "7 stationarySince", "30-31 validity in seconds", and the place
+abbrev pub whole : Line → ℕ → ℕ → ℕ → Place → Message
+whole l detection since validity p = record {
+  kind = l .kind;
+  warning = l .warning;
+  quality = l .quality;
+  roadtype = p .roadtype;
+  since = since;
+  event = l .event;
   detection = detection;
-  reference = reference;
-  position = record { east = pos east; north = pos north };
-  heading = heading;
+  reference = l .tick;
+  position = record { east = pos (p .east); north = pos (p .north) };
+  heading = p .heading;
   validity = validity;
 }
 
 -- stop (iii), from which the others differ: "park and brake: 100"
 abbrev pub parkAndBrake : List Change → List Change
 parkAndBrake changes = withGear park ∷ switchOn brake ∷ changes
+
+-- stop (iv) with the breakdown message: New of 2 at 30, quality 3
+abbrev pub brokenDown : List Change → List Change
+brokenDown changes = switchOn breakdown ∷ switchOn door ∷ changes
+
+-- eCall at 0: New of 3 at 0, quality 1
+abbrev pub ecallAtStart : List Change → List Change
+ecallAtStart changes = atAlone 0 (withHappening ecall) ∷ changes
+
+-- 5,000 dm east, west, north and south of where it stood, at ticks i to i + 3; at i + 4 5,000 south and 1 east
+abbrev pub fiveThousandEachWay : ℕ → List Change
+fiveThousandEachWay i =
+    withPlace 0 0 5000 5000
+    ∷ atAlone i (withPlace 0 0 10000 5000)
+    ∷ atAlone (i + 1) (withPlace 0 0 0 5000)
+    ∷ atAlone (i + 2) (withPlace 0 0 5000 10000)
+    ∷ atAlone (i + 3) (withPlace 0 0 5000 0)
+    ∷ atAlone (i + 4) (withPlace 0 0 5001 0)
+    ∷ []
 
 pub record FurtherStops : Type 0 where
   -- "Grading by what shortened the countdown.": park and brake up to 40 shorten it, and no condition is fulfilled at 100
@@ -101,4 +136,65 @@ pub record FurtherStops : Type 0 where
       ≡ line 10 N 3 3 1 ∷ line 160 C 3 3 1 ∷ line 169 N 3 1 2 ∷ []
   -- "Cancel repeats bytes 4-15 and 20-31 of the last New or Update; New and Update have detection = reference = now", and the validity of 2
   pub whole-messages : messagesUpTo 130 (parkAndBrake (switchOn breakdown ∷ withPlace 5 900 30 40 ∷ from 110 (withPlace 2 1800 50 60) ∷ from 120 (switchOff ignition) ∷ from 125 (withPlace 4 2700 70 80) ∷ atAlone 130 (switchOff hazard) ∷ []))
-      ≡ ofBrokenDown N 3 100 100 30 40 900 30 ∷ ofBrokenDown U 1 120 120 50 60 1800 180 ∷ ofBrokenDown C 1 120 130 50 60 1800 180 ∷ []
+      ≡ whole (line 100 N 2 2 1) 100 0 30 (place 3 900 30 40)
+      ∷ whole (line 120 U 2 2 1) 120 0 180 (place 1 1800 50 60)
+      ∷ whole (line 130 C 2 2 1) 120 0 180 (place 1 1800 50 60)
+      ∷ []
+  -- "Warnings 1 and 2 need still and hazard lights", of 2, and "3 if one of e-h is fulfilled at this tick": hazard off up to 34; 100 up to 30, so still first at 39
+  pub broken-down-needs-hazard : linesUpTo 35 (brokenDown (upTo 34 (switchOff hazard) ∷ [])) ≡ line 35 N 2 3 1 ∷ []
+  pub broken-down-needs-still : linesUpTo 39 (brokenDown (upTo 30 (withSpeed 100) ∷ [])) ≡ line 39 N 2 3 1 ∷ []
+  -- "Update: 150 ticks", of 2
+  pub broken-down-update : linesUpTo 180 (brokenDown []) ≡ line 30 N 2 3 1 ∷ line 180 U 2 3 1 ∷ []
+  -- "position more than 5,000 dm from that of the last New or Update", of 2 and of 3: just 5,000 stays
+  pub broken-down-distance : linesUpTo 35 (brokenDown (fiveThousandEachWay 31)) ≡ line 30 N 2 3 1 ∷ line 35 C 2 3 1 ∷ []
+  pub crash-distance : linesUpTo 5 (ecallAtStart (fiveThousandEachWay 1)) ≡ line 0 N 3 1 1 ∷ line 5 C 3 1 1 ∷ []
+  -- "hazard lights off", of 2
+  pub broken-down-hazard-off : linesUpTo 31 (brokenDown (from 31 (switchOff hazard) ∷ [])) ≡ line 30 N 2 3 1 ∷ line 31 C 2 3 1 ∷ []
+  -- "not still at each tick i-50 to i", of 2: speed 100 from 31
+  pub broken-down-driven-off : linesUpTo 81 (brokenDown (from 31 (withSpeed 100) ∷ [])) ≡ line 30 N 2 3 1 ∷ line 81 C 2 3 1 ∷ []
+  -- "or ignition off now and on at the tick before (004; for 1 and 3: U)", of 3: still first at 9, ignition off from 10
+  pub crash-ignition-off : linesUpTo 10 (ecallAtStart (atAlone 0 (withSpeed 100) ∷ from 10 (switchOff ignition) ∷ [])) ≡ line 9 N 3 1 1 ∷ line 10 U 3 1 1 ∷ []
+  -- "among happenings from the first counted tick of its New up to now": high severity at 3, after the New
+  pub crash-graded-later : linesUpTo 5 (ecallAtStart (atAlone 3 (withHappening highSeverity) ∷ from 5 (switchOff ignition) ∷ [])) ≡ line 0 N 3 1 1 ∷ line 5 U 3 3 1 ∷ []
+  -- "3 if one of e-h is fulfilled at this tick, else 2 if one of a-d is": a door up to 30, and brake or idle with it and after it, or belt off from 1
+  pub brake-grades : linesUpTo 31 (upTo 30 (switchOn door) ∷ switchOn brake ∷ from 31 (switchOff ignition) ∷ []) ≡ line 30 N 1 3 1 ∷ line 31 U 1 2 1 ∷ []
+  pub idle-grades : linesUpTo 31 (upTo 30 (switchOn door) ∷ withGear idle ∷ from 31 (switchOff ignition) ∷ []) ≡ line 30 N 1 3 1 ∷ line 31 U 1 2 1 ∷ []
+  pub belt-grades : linesUpTo 31 (upTo 30 (switchOn door) ∷ atAlone 0 (switchOn belt) ∷ from 31 (switchOff ignition) ∷ []) ≡ line 30 N 1 3 1 ∷ line 31 U 1 2 1 ∷ []
+  -- "first that applies": rule 2 before rule 3, where the ignition is switched off at the tick of a Cancel
+  pub cancel-alone : linesUpTo 31 (switchOn door ∷ from 31 (switchOff hazard) ∷ from 31 (switchOff ignition) ∷ []) ≡ line 30 N 1 3 1 ∷ line 31 C 1 3 1 ∷ []
+  pub broken-down-cancel-alone : linesUpTo 31 (brokenDown (from 31 (switchOff hazard) ∷ from 31 (switchOff ignition) ∷ [])) ≡ line 30 N 2 3 1 ∷ line 31 C 2 3 1 ∷ []
+  pub crash-cancel-alone : linesUpTo 1 (ecallAtStart (from 1 (withPlace 0 0 5001 0) ∷ from 1 (switchOff ignition) ∷ [])) ≡ line 0 N 3 1 1 ∷ line 1 C 3 1 1 ∷ []
+  -- "first that applies": rule 1 before rule 2, where 2 triggers 5,001 dm away, and 3 with hazard off
+  pub broken-down-first : linesUpTo 31 (switchOn door ∷ from 31 (switchOn breakdown) ∷ from 31 (withPlace 0 0 5001 0) ∷ [])
+      ≡ line 30 N 1 3 1 ∷ line 31 C 1 3 1 ∷ line 31 N 2 3 2 ∷ []
+  pub crash-first : linesUpTo 31 (switchOn door ∷ from 31 (switchOff hazard) ∷ atAlone 31 (withHappening highSeverity) ∷ [])
+      ≡ line 30 N 1 3 1 ∷ line 31 C 1 3 1 ∷ line 31 N 3 3 2 ∷ []
+  -- "a park; b idle": reverse and unknown, from 41, are neither, nor counted nor graded
+  pub reverse-is-neither : linesUpTo 100 (withGear reverse ∷ upTo 40 (withGear idle) ∷ upTo 40 (switchOn brake) ∷ []) ≡ line 100 N 1 1 1 ∷ []
+  pub unknown-is-neither : linesUpTo 100 (withGear unknown ∷ upTo 40 (withGear park) ∷ upTo 40 (switchOn brake) ∷ []) ≡ line 100 N 1 1 1 ∷ []
+  -- "F is at most 8": steadily 8
+  pub steadily-eight : linesUpTo 100 (parkAndBrake (withSpeed 8 ∷ [])) ≡ line 100 N 1 2 1 ∷ []
+  -- "A first reading of 9 and then steadily 8 never becomes still": with a door, one still tick from 30 on would give a New
+  pub nine-then-eights : linesUpTo 100 (switchOn door ∷ withSpeed 8 ∷ atAlone 0 (withSpeed 9) ∷ []) ≡ []
+  -- "Validity: warning 1: 30", with ignition on and off
+  pub whole-of-stopped : messagesUpTo 31 (switchOn door ∷ withPlace 3 3601 30 40 ∷ from 31 (switchOff ignition) ∷ [])
+      ≡ whole (line 30 N 1 3 1) 30 0 30 (place 0 3601 30 40) ∷ whole (line 31 U 1 3 1) 31 0 30 (place 0 3601 30 40) ∷ []
+  -- "3: 180 (U). Cancel repeats bytes 4-15 and 20-31 of the last New or Update", under rule 2, of an Update of 3
+  pub whole-of-crash : messagesUpTo 4 (ecallAtStart (withPlace 4 900 30 40 ∷ atAlone 2 (withHappening highSeverity) ∷ from 2 (withPlace 2 1800 50 60) ∷ from 3 (switchOff ignition) ∷ from 4 (withPlace 3 2700 5060 60) ∷ []))
+      ≡ whole (line 0 N 3 1 1) 0 0 180 (place 2 900 30 40)
+      ∷ whole (line 3 U 3 3 1) 3 0 180 (place 1 1800 50 60)
+      ∷ whole (line 4 C 3 3 1) 3 0 180 (place 1 1800 50 60)
+      ∷ []
+  -- the same under rule 1, of a New of 2, and "0 below 1 minute or not still, 1 below 2": hazard off up to 599; high severity, speed 100 and another place at 601
+  pub whole-of-overruled : messagesUpTo 601 (brokenDown (upTo 599 (switchOff hazard) ∷ withPlace 1 900 30 40 ∷ from 601 (withPlace 6 2700 6000 80) ∷ from 601 (withSpeed 100) ∷ atAlone 601 (withHappening highSeverity) ∷ []))
+      ≡ whole (line 600 N 2 3 1) 600 1 30 (place 0 900 30 40)
+      ∷ whole (line 601 C 2 3 1) 600 1 30 (place 0 900 30 40)
+      ∷ whole (line 601 N 3 3 2) 601 0 180 (place 2 2700 6000 80)
+      ∷ []
+  -- "Update: 150 ticks (warning 3: 600, U)", "0 below 1 minute or not still, 1 below 2, 2 below 15", and the quality of a happening long past; no reading and 5,001 dm at 1201
+  pub whole-of-minutes : messagesUpTo 1201 (ecallAtStart (from 1201 (withSpeed noReading) ∷ from 1201 (withPlace 0 0 5001 0) ∷ []))
+      ≡ whole (line 0 N 3 1 1) 0 0 180 (place 255 0 0 0)
+      ∷ whole (line 600 U 3 1 1) 600 1 180 (place 255 0 0 0)
+      ∷ whole (line 1200 U 3 1 1) 1200 2 180 (place 255 0 0 0)
+      ∷ whole (line 1201 C 3 1 1) 1200 2 180 (place 255 0 0 0)
+      ∷ []
