@@ -2,7 +2,7 @@
 -- Assumes nothing.
 use Prim.Native.Nat.{ℕ, _-_}
 use mathlib.Core.Path.{_≡_}
-use mathlib.Core.Bool.{Bool, true, false, cond, _||_}
+use mathlib.Core.Bool.{true, false, cond, _||_}
 use mathlib.Core.List.{List, [], _∷_, _++_, map, foldl}
 use lib.Dec.{eqb}
 use lib.IntN.{ℤ, pos}
