@@ -11,4 +11,5 @@ pub mod Running
 pub mod SteadyStretch
 pub mod CallFaults
 pub mod OrderOfChecksHolds
+pub mod DocumentHolds
 pub mod DemandHolds

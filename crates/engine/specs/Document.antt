@@ -1,0 +1,29 @@
+-- What document 01 writes out, of the definitions that the promises cite: its tables, bounds and orders, its sentences in words, and its stops.
+-- `Engine::fresh` ensures it, so that no part of it can go unseen. Assumes nothing.
+use Rattle.sample.specs.Examples.{SampleExamples}
+use Rattle.filter.specs.Examples.{FilterExamples, FilterLaws}
+use Rattle.message.specs.Examples.{MessageExamples}
+use Rattle.block.specs.Examples.{BlockExamples}
+use Rattle.history.specs.InWords.{InWords}
+use Rattle.history.specs.BenchStops.{BenchStops}
+use Rattle.history.specs.FurtherStops.{FurtherStops}
+use Rattle.engine.specs.OrderOfChecks.{OrderOfChecks}
+
+pub record Document : Type 0 where
+  -- "The sample"
+  pub sample : SampleExamples
+  -- "Standing still"
+  pub filter : FilterExamples
+  pub filter-laws : FilterLaws
+  -- "The history reading"
+  pub in-words : InWords
+  -- "The message"
+  pub message : MessageExamples
+  -- "The block and its calls"
+  pub block : BlockExamples
+  -- "What is turned down"
+  pub order : OrderOfChecks
+  -- "Bench stops"
+  pub bench-stops : BenchStops
+  -- and stops for what these leave open
+  pub further-stops : FurtherStops
