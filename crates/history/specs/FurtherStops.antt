@@ -140,9 +140,8 @@ pub record FurtherStops : Type 0 where
       ∷ whole (line 120 U 2 2 1) 120 0 180 (place 1 1800 50 60)
       ∷ whole (line 130 C 2 2 1) 120 0 180 (place 1 1800 50 60)
       ∷ []
-  -- "Warnings 1 and 2 need still and hazard lights", of 2, and "3 if one of e-h is fulfilled at this tick": hazard off up to 34; 100 up to 30, so still first at 39
+  -- "Warnings 1 and 2 need still and hazard lights", of 2, and "3 if one of e-h is fulfilled at this tick": hazard off up to 34
   pub broken-down-needs-hazard : linesUpTo 35 (brokenDown (upTo 34 (switchOff hazard) ∷ [])) ≡ line 35 N 2 3 1 ∷ []
-  pub broken-down-needs-still : linesUpTo 39 (brokenDown (upTo 30 (withSpeed 100) ∷ [])) ≡ line 39 N 2 3 1 ∷ []
   -- "Update: 150 ticks", of 2
   pub broken-down-update : linesUpTo 180 (brokenDown []) ≡ line 30 N 2 3 1 ∷ line 180 U 2 3 1 ∷ []
   -- "position more than 5,000 dm from that of the last New or Update", of 2 and of 3: just 5,000 stays
@@ -169,7 +168,7 @@ pub record FurtherStops : Type 0 where
       ≡ line 30 N 1 3 1 ∷ line 31 C 1 3 1 ∷ line 31 N 2 3 2 ∷ []
   pub crash-first : linesUpTo 31 (switchOn door ∷ from 31 (switchOff hazard) ∷ atAlone 31 (withHappening highSeverity) ∷ [])
       ≡ line 30 N 1 3 1 ∷ line 31 C 1 3 1 ∷ line 31 N 3 3 2 ∷ []
-  -- "a park; b idle": reverse and unknown, from 41, are neither, nor counted nor graded
+  -- "a park; b idle": reverse and unknown, from 41, are neither, so nothing is counted or graded by them
   pub reverse-is-neither : linesUpTo 100 (withGear reverse ∷ upTo 40 (withGear idle) ∷ upTo 40 (switchOn brake) ∷ []) ≡ line 100 N 1 1 1 ∷ []
   pub unknown-is-neither : linesUpTo 100 (withGear unknown ∷ upTo 40 (withGear park) ∷ upTo 40 (switchOn brake) ∷ []) ≡ line 100 N 1 1 1 ∷ []
   -- "F is at most 8": steadily 8
