@@ -184,16 +184,15 @@ pub record FurtherStops : Type 0 where
       ∷ whole (line 3 U 3 3 1) 3 0 180 (place 1 1800 50 60)
       ∷ whole (line 4 C 3 3 1) 3 0 180 (place 1 1800 50 60)
       ∷ []
-  -- the same under rule 1, of a New of 2, and "0 below 1 minute or not still, 1 below 2": hazard off up to 599; high severity, speed 100 and another place at 601
-  pub whole-of-overruled : messagesUpTo 601 (brokenDown (upTo 599 (switchOff hazard) ∷ withPlace 1 900 30 40 ∷ from 601 (withPlace 6 2700 6000 80) ∷ from 601 (withSpeed 100) ∷ atAlone 601 (withHappening highSeverity) ∷ []))
-      ≡ whole (line 600 N 2 3 1) 600 1 30 (place 0 900 30 40)
-      ∷ whole (line 601 C 2 3 1) 600 1 30 (place 0 900 30 40)
-      ∷ whole (line 601 N 3 3 2) 601 0 180 (place 2 2700 6000 80)
+  -- the same under rule 1, of a New of 2: hazard off up to 34; high severity, speed 100 and another place at 36
+  pub whole-of-overruled : messagesUpTo 36 (brokenDown (upTo 34 (switchOff hazard) ∷ withPlace 1 900 30 40 ∷ from 36 (withPlace 6 2700 6000 80) ∷ from 36 (withSpeed 100) ∷ atAlone 36 (withHappening highSeverity) ∷ []))
+      ≡ whole (line 35 N 2 3 1) 35 0 30 (place 0 900 30 40)
+      ∷ whole (line 36 C 2 3 1) 35 0 30 (place 0 900 30 40)
+      ∷ whole (line 36 N 3 3 2) 36 0 180 (place 2 2700 6000 80)
       ∷ []
-  -- "Update: 150 ticks (warning 3: 600, U)", "0 below 1 minute or not still, 1 below 2, 2 below 15", and the quality of a happening long past; no reading and 5,001 dm at 1201
-  pub whole-of-minutes : messagesUpTo 1201 (ecallAtStart (from 1201 (withSpeed noReading) ∷ from 1201 (withPlace 0 0 5001 0) ∷ []))
+  -- "Update: 150 ticks (warning 3: 600, U)", "0 below 1 minute or not still, 1 below 2", and the quality of a happening long past; no reading and 5,001 dm at 601
+  pub whole-of-minute : messagesUpTo 601 (ecallAtStart (from 601 (withSpeed noReading) ∷ from 601 (withPlace 0 0 5001 0) ∷ []))
       ≡ whole (line 0 N 3 1 1) 0 0 180 (place 255 0 0 0)
       ∷ whole (line 600 U 3 1 1) 600 1 180 (place 255 0 0 0)
-      ∷ whole (line 1200 U 3 1 1) 1200 2 180 (place 255 0 0 0)
-      ∷ whole (line 1201 C 3 1 1) 1200 2 180 (place 255 0 0 0)
+      ∷ whole (line 601 C 3 1 1) 600 1 180 (place 255 0 0 0)
       ∷ []
