@@ -10,12 +10,12 @@ use mir.Val.{toZ, ofZ, SFits}
 use mir.Facts.{toZ-pos, toZ-ofZ}
 use Rattle.wire.specs.declared.Answer.{Answer}
 use Rattle.wire.specs.declared.Answer.the-variants.{Given, Refused}
-use Rattle.wire.specs.Outcome.{answered}
+use Rattle.wire.specs.Outcome.{answered, givenCount}
 use Rattle.message.specs.declared.Message.{Message}
 use Rattle.message.specs.declared.Reading.{Reading}
 use Rattle.message.specs.declared.Reading.the-variants as R
 use Rattle.message.specs.Message.{messageRead, reading}
-use Rattle.capi.specs.Imaged.{answerNumber, checkNumber, givenCount}
+use Rattle.capi.specs.Imaged.{answerNumber, checkNumber}
 
 minus-fits : (n : ℕ) → n < 256 → SFits w32 (negℤ (pos n))
 minus-fits zero h = record { sfits = omega arith }

@@ -7,8 +7,6 @@ use mathlib.Core.List.{List, [], _∷_}
 use lib.Dec.{eqb}
 use lib.IntN.{ℤ, pos, negℤ}
 use lib.ListN.{length}
-use Rattle.wire.specs.declared.Answer.{Answer}
-use Rattle.wire.specs.declared.Answer.the-variants.{Given, Refused}
 use Rattle.wire.specs.Memory.{splice}
 use Rattle.wire.specs.Outcome.{check, firstFault, Outcome, accepted, refused, outcome}
 use Rattle.sample.specs.declared.Sample.{Sample}
@@ -28,11 +26,6 @@ answerNumber (refused n) = negℤ (pos n)
 unfoldable pub checkNumber : Outcome Message → ℤ
 checkNumber (accepted m) = pos 0
 checkNumber (refused n) = negℤ (pos n)
-
--- the count of an answer, 0 for a refusal
-unfoldable pub givenCount : Answer → ℕ
-givenCount (Given n) = n
-givenCount (Refused n) = 0
 
 -- the first failing check of a call on an image, which 21 asks for
 unfoldable pub imageFault : List ℕ → Call → ℕ

@@ -10,6 +10,7 @@ pub mod Records
 pub mod Running
 pub mod SteadyStretch
 pub mod CallFaults
+pub mod CallCounts
 pub mod OrderOfChecksHolds
 pub mod DocumentHolds
 pub mod DemandHolds

@@ -78,6 +78,28 @@ pub fn read(bytes: &[u8]) -> Reading
     }
 }
 
+// The fields of a record, whatever their values. Bytes beyond the end count as 0.
+pub fn fields(bytes: &[u8]) -> Message
+    ensures { λ r. ⌜ r ≡ messageOf (now (bytes .entry)) ⌝ }
+{
+    Message {
+        kind: wire::byte_at(bytes, 0),
+        warning: wire::byte_at(bytes, 1),
+        quality: wire::byte_at(bytes, 4),
+        roadtype: wire::byte_at(bytes, 5),
+        since: wire::byte_at(bytes, 7),
+        event: wire::word32(bytes, 8),
+        detection: wire::word32(bytes, 12),
+        reference: wire::word32(bytes, 16),
+        position: Position {
+            east: wire::signed(wire::word32(bytes, 20)),
+            north: wire::signed(wire::word32(bytes, 24)),
+        },
+        heading: wire::word16(bytes, 28),
+        validity: wire::word16(bytes, 30),
+    }
+}
+
 pub fn write(m: Message, out: &mut [u8]) -> Answer
     ensures { λ r. ⌜ Written m (now (out .entry)) r (now (out .exit)) ⌝ }
 {
@@ -230,26 +252,4 @@ fn is_derived(s: &[u8]) -> bool
     let row = row_of(s[1]);
     let w = direction_of(s[5]);
     (s[2] == row.subcause) & (s[3] == row.cause) & (s[6] == w)
-}
-
-fn fields(s: &[u8]) -> Message
-    requires { ⌜ length (now s) ≡ 32 ⌝ }
-    ensures { λ r. ⌜ r ≡ messageOf (now (s .entry)) ⌝ }
-{
-    Message {
-        kind: s[0],
-        warning: s[1],
-        quality: s[4],
-        roadtype: s[5],
-        since: s[7],
-        event: wire::word32(s, 8),
-        detection: wire::word32(s, 12),
-        reference: wire::word32(s, 16),
-        position: Position {
-            east: wire::signed(wire::word32(s, 20)),
-            north: wire::signed(wire::word32(s, 24)),
-        },
-        heading: wire::word16(s, 28),
-        validity: wire::word16(s, 30),
-    }
 }

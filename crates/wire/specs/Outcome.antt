@@ -32,3 +32,8 @@ outcome fault value = cond (eqb fault 0) (accepted value) (refused fault)
 unfoldable pub answered : Answer → Outcome ℕ
 answered (Given n) = accepted n
 answered (Refused n) = refused n
+
+-- the count of an answer, 0 for a refusal
+unfoldable pub givenCount : Answer → ℕ
+givenCount (Given n) = n
+givenCount (Refused n) = 0

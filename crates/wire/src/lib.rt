@@ -6,11 +6,29 @@ ghost use mir.Syntax.{w32};
 ghost use mir.Val.{toZ, ofZ};
 ghost use Rattle.wire.specs.Words.{bytesOf, word};
 ghost use Rattle.wire.specs.Memory.{splice};
+ghost use Rattle.wire.specs.Outcome.{givenCount};
 
 // What a call that writes records answers: how many it wrote, or why it wrote none.
 pub enum Answer {
     Given(usize),
     Refused(u8),
+}
+
+// The count of an answer, 0 for a refusal.
+pub fn given_count(answer: Answer) -> usize
+    ensures { λ r. ⌜ r ≡ givenCount answer ⌝ }
+{
+    match answer {
+        Answer::Given(n) => n,
+        Answer::Refused(_) => 0,
+    }
+}
+
+// The byte at place `at`, 0 beyond the end.
+pub fn byte_at(bytes: &[u8], at: usize) -> u8
+    ensures { λ r. ⌜ r ≡ getD (now (bytes .entry)) at 0 ⌝ }
+{
+    if at < bytes.len() { bytes[at] } else { 0 }
 }
 
 // The number in 2 bytes from place `at` on. Bytes beyond the end count as 0.
@@ -37,10 +55,8 @@ pub fn word32(bytes: &[u8], at: usize) -> u32
 fn byte(bytes: &[u8], at: usize, k: usize) -> u8
     ensures { λ r. ⌜ r ≡ getD (now (bytes .entry)) (at + k) 0 ⌝ }
 {
-    if at < bytes.len() {
-        if k < bytes.len() - at {
-            return bytes[at + k];
-        }
+    if at <= usize::MAX - k {
+        return byte_at(bytes, at + k);
     }
     0
 }
