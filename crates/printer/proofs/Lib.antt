@@ -5,3 +5,6 @@ pub mod EndPrinted
 pub mod BlockCalled
 pub mod BlocksInTurn
 pub mod Counted
+pub mod BlocksJoined
+pub mod RunText
+pub mod ProgramHolds
