@@ -1,7 +1,7 @@
 -- The history reading of document 01: it sees all accepted samples and the messages given before, looks back over them, and keeps nothing.
 -- Assumes nothing.
 use Prim.Native.Nat.{ℕ, _+_, _-_, max}
-use mathlib.Core.Bool.{Bool, true, false, not, _&&_, _||_, cond}
+use mathlib.Core.Bool.{Bool, false, not, _&&_, _||_, cond}
 use mathlib.Core.List.{List, [], _∷_, _++_, reverseAux}
 use lib.Dec.{leb, ltb, eqb}
 use Rattle.sample.specs.declared.Sample.{Sample}

@@ -12,7 +12,7 @@ use Rattle.sample.specs.declared.Position.{Position}
 use Rattle.message.specs.declared.Message.{Message}
 use Rattle.history.specs.declared.View.{View}
 use Rattle.history.specs.Rules.{Settings, rank, overrules}
-use Rattle.history.specs.History.{Past, Fact, never, size, stationary, ignited, doorOpen, bootOpen, bonnetOpen, conditionA, conditionB, conditionC, conditionD, oneOfEtoH, isNew, isCancel, ready, ecallPressed, lowSeverity, highSeverity}
+use Rattle.history.specs.History.{Past, Fact, never, size, stationary, parked, idling, braked, belted, ignited, doorOpen, bootOpen, bonnetOpen, conditionA, conditionB, conditionC, conditionD, oneOfEtoH, isNew, isCancel, ready, ecallPressed, lowSeverity, highSeverity}
 use Rattle.history.specs.Standing.{among, Stands}
 
 -- whether the history has a tick k and p is true at it
@@ -45,6 +45,10 @@ pub record SwitchOffHeld (d : ℕ) (p : Fact) (h : Past) (i : ℕ) : Type 0 wher
   pub at-least : j + d ≤ i
   pub has-before : 1 ≤ j
   pub on : atTick p h (j - 1) ≡ true
+
+-- "a park; b idle; c parking brake; d belt switched off", "each held for 30"
+abbrev pub OneOfAtoD : Past → ℕ → Type 0
+OneOfAtoD h i = ((Held 30 parked h i ⊎ Held 30 idling h i) ⊎ Held 30 braked h i) ⊎ SwitchOffHeld 30 belted h i
 
 -- "e ignition switched off; f door, g boot, h bonnet open", "each held for 30"
 abbrev pub OneOfEtoH : Past → ℕ → Type 0
@@ -154,6 +158,12 @@ pub record SinceCode (ticks code : ℕ) : Type 0 where
   pub below-15 : 1200 ≤ ticks → ticks < 9000 → code ≡ 2
   pub from-15 : 9000 ≤ ticks → code ≡ 3
 
+-- "Quality for 1 and 2: 3 if one of e-h is fulfilled at this tick, else 2 if one of a-d is, else 1.": q, at tick i
+pub record Graded (h : Past) (i q : ℕ) : Type 0 where
+  pub by-e-to-h : OneOfEtoH h i → q ≡ 3
+  pub by-a-to-d : (OneOfEtoH h i → ⊥) → OneOfAtoD h i → q ≡ 2
+  pub by-none : (OneOfEtoH h i → ⊥) → (OneOfAtoD h i → ⊥) → q ≡ 1
+
 -- "3 Cancel", "Cancel repeats bytes 4-15 and 20-31 of the last New or Update": c is a Cancel at tick i, and has each other field of m
 pub record Repeats (m : Message) (i : ℕ) (c : Message) : Type 0 where
   pub kind : c .kind ≡ 3
@@ -167,6 +177,15 @@ pub record Repeats (m : Message) (i : ℕ) (c : Message) : Type 0 where
   pub position : c .position ≡ m .position
   pub heading : c .heading ≡ m .heading
   pub validity : c .validity ≡ m .validity
+
+-- "1 New", "event, the count of New messages so far, a New counting itself", "New and Update have detection = reference = now": n is a New of
+-- the warning w at tick i, and k News were given before it
+pub record NewOf (w k i : ℕ) (n : Message) : Type 0 where
+  pub kind : n .kind ≡ 1
+  pub warning : n .warning ≡ w
+  pub event : n .event ≡ k + 1
+  pub detection : n .detection ≡ i
+  pub reference : n .reference ≡ i
 
 -- "2 Update", "New and Update have detection = reference = now": u is an Update at tick i, with the warning and the event of m
 pub record Updates (m : Message) (i : ℕ) (u : Message) : Type 0 where

@@ -7,7 +7,7 @@ use Prim.Native.Nat.{ℕ}
 use native.Mathlib.Omega.{arith}
 use borrow.Author.Tests.{eq-eqb, ne-eqb, not-true, not-false}
 use lib.ListN.{length}
-use Rattle.wire.specs.Outcome.{firstFault, outcome, accepted, check}
+use Rattle.wire.specs.Outcome.{firstFault, outcome, check}
 use Rattle.wire.proofs.FirstFault.{accepted-clear, clear-first, refused-number}
 use Rattle.history.specs.declared.State.{State}
 use Rattle.history.specs.Ranges.{stateInRange}

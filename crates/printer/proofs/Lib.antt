@@ -8,3 +8,5 @@ pub mod Counted
 pub mod BlocksJoined
 pub mod RunText
 pub mod ProgramHolds
+pub mod ExamplesHold
+pub mod DemandHolds
