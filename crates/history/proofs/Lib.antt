@@ -21,4 +21,6 @@ pub mod StopsComputed
 pub mod BenchStopsHold
 pub mod FurtherStopsHold
 pub mod MessagesInWords
+pub mod FactsInWords
+pub mod GivenInWords
 pub mod InWordsHold

@@ -9,7 +9,10 @@ use lib.Dec.{eqb}
 use lib.IntN.{pos, _+ℤ_, _-ℤ_, _*ℤ_}
 use lib.Signed.{_<ℤ_}
 use Rattle.sample.specs.declared.Position.{Position}
+use Rattle.sample.specs.declared.Sample.{Sample}
+use Rattle.sample.specs.Sample.{switchesOf}
 use Rattle.message.specs.declared.Message.{Message}
+use Rattle.message.specs.Warnings.{validityOf, roadTypeOf}
 use Rattle.history.specs.declared.View.{View}
 use Rattle.history.specs.Rules.{Settings, rank, overrules}
 use Rattle.history.specs.History.{Past, Fact, never, size, stationary, parked, idling, braked, belted, ignited, doorOpen, bootOpen, bonnetOpen, conditionA, conditionB, conditionC, conditionD, oneOfEtoH, isNew, isCancel, ready, ecallPressed, lowSeverity, highSeverity}
@@ -178,22 +181,33 @@ pub record Repeats (m : Message) (i : ℕ) (c : Message) : Type 0 where
   pub heading : c .heading ≡ m .heading
   pub validity : c .validity ≡ m .validity
 
--- "1 New", "event, the count of New messages so far, a New counting itself", "New and Update have detection = reference = now": n is a New of
--- the warning w at tick i, and k News were given before it
-pub record NewOf (w k i : ℕ) (n : Message) : Type 0 where
+-- what "New and Update have" at tick i, the newest of h, with the sample x; warning 3 counts from tick f on
+pub record Fields (h : Past) (i : ℕ) (x : Sample) (f : ℕ) (m : Message) : Type 0 where
+  pub quality : (m .warning ≡ 1) ⊎ (m .warning ≡ 2) → Graded h i (m .quality)
+  -- "For 3: the highest of .., among happenings from the first counted tick of its New up to now."
+  pub quality-of-3 : m .warning ≡ 3 → Highest h f i (m .quality)
+  pub roadtype : m .roadtype ≡ roadTypeOf (x .road)
+  -- "whole minutes of the unbroken still run, now minus its first tick", a; "0 .. or not still"
+  pub since : (a : ℕ) → LongestRun stationary h a i → SinceCode (i - a) (m .since)
+  pub since-not-still : atTick stationary h i ≡ false → m .since ≡ 0
+  -- "detection = reference = now"
+  pub detection : m .detection ≡ i
+  pub reference : m .reference ≡ i
+  pub position : m .position ≡ x .position
+  pub heading : m .heading ≡ x .heading
+  pub validity : m .validity ≡ validityOf (m .warning) (switchesOf x .ignition)
+
+-- "1 New", "event, the count of New messages so far, a New counting itself": n is a New of the warning w, and k News were given before it
+pub record NewOf (w k : ℕ) (n : Message) : Type 0 where
   pub kind : n .kind ≡ 1
   pub warning : n .warning ≡ w
   pub event : n .event ≡ k + 1
-  pub detection : n .detection ≡ i
-  pub reference : n .reference ≡ i
 
--- "2 Update", "New and Update have detection = reference = now": u is an Update at tick i, with the warning and the event of m
-pub record Updates (m : Message) (i : ℕ) (u : Message) : Type 0 where
+-- "2 Update": u is an Update with the warning and the event of m
+pub record Updates (m u : Message) : Type 0 where
   pub kind : u .kind ≡ 2
   pub warning : u .warning ≡ m .warning
   pub event : u .event ≡ m .event
-  pub detection : u .detection ≡ i
-  pub reference : u .reference ≡ i
 
 -- ---- rule 1
 
