@@ -18,9 +18,8 @@ use Rattle.history.specs.declared.Notice.{Notice}
 use Rattle.history.specs.declared.Notice.the-variants.{Nothing, Sent}
 use Rattle.history.specs.Rules.{Settings}
 use Rattle.history.specs.History.{Past, Fact, size, run, filterAfter, messages, isCancel, standing, events, started, lastCancel, counted, cycleOf, after}
-use Rattle.history.specs.State.{fresh, stateAfter}
 use Rattle.history.specs.Ranges.{standingInRange, rangeTests, stateInRange}
-use Rattle.history.proofs.StepMatchesHistory.{logOf, stateOf, fresh-matches, steps-match}
+use Rattle.history.proofs.StepMatchesHistory.{logOf, stateOf}
 use Rattle.history.proofs.Reached.{IfSent, LastReport, Reached}
 use Rattle.history.proofs.MessagesAdmitted.{AllAccepted, reached-after}
 
@@ -65,7 +64,3 @@ module _ (S : Settings) (xs : List Sample) (all : AllAccepted xs) (most : size (
   -- from nothing, after any accepted samples, up to "ten million samples taken"
   pub states-in-range : T (stateInRange (stateOf (after S [] xs)))
   states-in-range = reached-in-range (after S [] xs) (reached-after S xs all most) most
-
-  -- "no state reached from a fresh engine is" outside the ranges, by the state's own steps
-  pub fresh-stays-in-range : T (stateInRange (stateAfter S fresh xs))
-  fresh-stays-in-range = rw (fresh-matches, steps-match S [] xs .0) states-in-range

@@ -52,10 +52,10 @@ at-before S p past [] k l = refl
 at-before S p past (x ∷ xs) k l = at-before S p (tickOf S x past ∷ past) xs k (omega arith) ∙ at-older p (tickOf S x past) past k l
 
 -- "The first tick is 0, each later one is one more": the tick of a sample has the number of samples before it
-pub at-tick-of-sample : (S : Settings) (p : Fact) (xs : List Sample) (x : Sample) (ys : List Sample)
+pub tick-of-sample : (S : Settings) (p : Fact) (xs : List Sample) (x : Sample) (ys : List Sample)
     → atTick p (after S [] (xs ++ (x ∷ ys))) (length xs) ≡ p (tickOf S x (after S [] xs)) (after S [] xs)
 unfolding size after
-at-tick-of-sample S p xs x ys =
+tick-of-sample S p xs x ys =
     let past = after S [] xs in
     let e : size past ≡ length xs = size-after S [] xs ∙ omega arith in
     rw (after-append S [] xs (x ∷ ys), ← e)

