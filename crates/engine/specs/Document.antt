@@ -7,6 +7,7 @@ use Rattle.block.specs.Examples.{BlockExamples}
 use Rattle.history.specs.InWords.{InWords}
 use Rattle.history.specs.BenchStops.{BenchStops}
 use Rattle.history.specs.FurtherStops.{FurtherStops}
+use Rattle.history.specs.RangeExamples.{RangeExamples}
 use Rattle.engine.specs.OrderOfChecks.{OrderOfChecks}
 
 pub record Document : Type 0 where
@@ -23,6 +24,7 @@ pub record Document : Type 0 where
   pub block : BlockExamples
   -- "What is turned down"
   pub order : OrderOfChecks
+  pub ranges : RangeExamples
   -- "Bench stops"
   pub bench-stops : BenchStops
   -- and stops for what these leave open

@@ -24,3 +24,4 @@ pub mod MessagesInWords
 pub mod FactsInWords
 pub mod GivenInWords
 pub mod InWordsHold
+pub mod RangeExamplesHold

@@ -7,3 +7,4 @@ pub mod TickWords
 pub mod InWords
 pub mod BenchStops
 pub mod FurtherStops
+pub mod RangeExamples
