@@ -2,6 +2,7 @@ pub mod StateTaken
 pub mod StateSeen
 pub mod Squares
 pub mod Decided
+pub mod HighestFound
 pub mod StepFits
 pub mod SampleAt
 pub mod SteadyStep

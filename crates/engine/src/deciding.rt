@@ -5,8 +5,9 @@ ghost use lib.Dec.{T};
 ghost use lib.IntN.{pos, natAbs};
 ghost use mathlib.Core.Bool.{not};
 ghost use Rattle.sample.specs.Sample.{beyond};
-ghost use Rattle.history.specs.Rules.{unitSettings, one, fulfilled, cycleTriggers, crashTriggers, highest, qualityOf, stationarySince, reportOf, cancelOf, cancelStanding, squared, distanceExceeded, drivenOff, hazardOff, cancelled, updateDue, raise, keep, decide};
+ghost use Rattle.history.specs.Rules.{unitSettings, one, fulfilled, cycleTriggers, crashTriggers, highest, qualityOf, stationarySince, reportOf, cancelOf, cancelStanding, squared, distanceExceeded, drivenOff, hazardOff, cancelDue, updateDue, raise, keep, decide};
 ghost use Rattle.engine.specs.Fits.{MessageFits, ViewFits};
+use crate::taking::rank;
 use crate::taking::standing_rank;
 use history::Cycle;
 use history::Decision;
@@ -43,23 +44,32 @@ fn crash_triggers(v: View) -> bool
     (v.recent == 3) | ((0 < v.recent) & (0 < v.stationary))
 }
 
+// The warnings by falling rank.
+const BY_RANK: [u8; 3] = [3, 2, 1];
+
 // The highest warning that overrules the standing one, 0 for none.
 fn highest(v: View) -> u8
     requires { ⌜ ViewFits v ⌝ }
     ensures { λ r. ⌜ r ≡ highest unitSettings v ⌝ }
 {
     let standing = v.standing;
-    let rank = standing_rank(standing);
-    if crash_triggers(v) & (rank < 3) {
-        return 3;
-    }
-    let second = v.second;
-    if cycle_triggers(second) & (rank < 2) {
-        return 2;
-    }
     let first = v.first;
-    if cycle_triggers(first) & (rank < 1) {
-        return 1;
+    let second = v.second;
+    let below = standing_rank(standing);
+    let triggered = [
+        false,
+        cycle_triggers(first),
+        cycle_triggers(second),
+        crash_triggers(v),
+    ];
+    let mut i: usize = 0;
+    while i < 3 {
+        let warning = BY_RANK[i];
+        let at = warning as usize;
+        if triggered[at] & (below < rank(warning)) {
+            return warning;
+        }
+        i += 1;
     }
     0
 }
@@ -173,9 +183,9 @@ fn hazard_off(v: View, m: Message) -> bool
     !(m.warning == 3) & !w.hazard
 }
 
-fn is_cancelled(v: View, m: Message) -> bool
+fn cancel_due(v: View, m: Message) -> bool
     requires { ⌜ ViewFits v × MessageFits m ⌝ }
-    ensures { λ r. ⌜ r ≡ cancelled v m ⌝ }
+    ensures { λ r. ⌜ r ≡ cancelDue v m ⌝ }
 {
     let x = v.sample;
     let p = x.position;
@@ -212,9 +222,9 @@ fn keep(v: View, standing: Notice) -> Decision
             report: Notice::Nothing,
         };
     };
-    if is_cancelled(v, m) {
+    if cancel_due(v, m) {
         return Decision {
-            cancel: Notice::Sent(cancel_of(v.tick, m)),
+            cancel: cancel_standing(v.tick, standing),
             report: Notice::Nothing,
         };
     }

@@ -1,64 +1,94 @@
 -- The warning that rule 1 raises is the one of the highest rank that triggers and outranks the standing one.
 -- Assumes nothing.
 use mathlib.Core.Path.{_≡_, refl, sym, ap, _∙_}
-use mathlib.Core.Logic.{_⊎_, inl, inr}
+use mathlib.Core.Logic.{inl, inr}
 use mathlib.Core.Bool.{Bool, true, false, cond, false≢true}
-use Prim.Native.Nat.{ℕ}
+use mathlib.Core.List.{List, [], _∷_, List·Memᴰ, List·Memᴰ·not-nil, List·Memᴰ·cases-cons}
+use mathlib.Core.List.List·Memᴰ.{List·Memᴰ·head, List·Memᴰ·tail}
+use Prim.Native.Nat.{ℕ, zero, suc, _≤_}
 use native.Mathlib.Omega.{arith}
-use borrow.Author.Tests.{eqb-true}
-use lib.Dec.{eqb}
+use borrow.Author.Tests.{eq-eqb}
+use lib.Dec.{ltb, eqb}
 use Rattle.wire.proofs.Tests.{both-true}
 use Rattle.history.specs.declared.View.{View}
-use Rattle.history.specs.Rules.{Settings, rank, cycleTriggers, crashTriggers, triggers, overrules, highestOf, highest}
+use Rattle.history.specs.Rules.{Settings, rank, byRank, standingRank, triggers, overrules, highestOf, highest}
 use Rattle.history.specs.TickWords.{TheHighest}
 
--- no number but 1, 2 and 3 triggers
-one-of-three : (S : Settings) (v : View) (warning : ℕ) → triggers S v warning ≡ true → (warning ≡ 1) ⊎ ((warning ≡ 2) ⊎ (warning ≡ 3))
+-- only a warning triggers, and each is listed
+triggers-listed : (S : Settings) (v : View) (warning : ℕ) → triggers S v warning ≡ true → List·Memᴰ warning byRank
 unfolding triggers
-one-of-three S v warning e = go (eqb warning 1) (eqb warning 2) (eqb warning 3) refl refl refl e
-  where
-    go : (a b c : Bool) → eqb warning 1 ≡ a → eqb warning 2 ≡ b → eqb warning 3 ≡ c
-        → cond a (cycleTriggers S (v .first)) (cond b (cycleTriggers S (v .second)) (cond c (crashTriggers v) false)) ≡ true
-        → (warning ≡ 1) ⊎ ((warning ≡ 2) ⊎ (warning ≡ 3))
-    go true b c p q r t = inl (eqb-true warning 1 p)
-    go false true c p q r t = inr (inl (eqb-true warning 2 q))
-    go false false true p q r t = inr (inr (eqb-true warning 3 r))
-    go false false false p q r t = absurd (false≢true t)
+triggers-listed S v zero e = absurd (false≢true e)
+triggers-listed S v (suc zero) e = List·Memᴰ·tail (List·Memᴰ·tail (List·Memᴰ·head refl))
+triggers-listed S v (suc (suc zero)) e = List·Memᴰ·tail (List·Memᴰ·head refl)
+triggers-listed S v (suc (suc (suc zero))) e = List·Memᴰ·head refl
+triggers-listed S v (suc (suc (suc (suc n)))) e = absurd (false≢true e)
+
+-- what each warning of a list has
+abbrev Each : (ℕ → Type 0) → List ℕ → Type 0
+Each P [] = Unit {0}
+Each P (w ∷ ws) = P w × Each P ws
+
+each-listed : (P : ℕ → Type 0) (ws : List ℕ) → Each P ws → (w : ℕ) → List·Memᴰ w ws → P w
+each-listed P [] a w i = absurd (List·Memᴰ·not-nil i)
+each-listed P (u ∷ ws) a w i = elim (List·Memᴰ·cases-cons i) [ inl e ↦ rw e (a .0) | inr j ↦ each-listed P ws (a .1) w j ]
+
+pub from-1-to-3 : (S : Settings) (v : View) (warning : ℕ) → triggers S v warning ≡ true → (1 ≤ warning) × (warning ≤ 3)
+from-1-to-3 S v warning t =
+    each-listed (λ w. (1 ≤ w) × (w ≤ 3)) byRank ((omega arith, omega arith), ((omega arith, omega arith), ((omega arith, omega arith), tt))) warning (triggers-listed S v warning t)
+
+-- "A warning outranking the standing one triggers"
+pub overruled : (S : Settings) (v : View) (warning : ℕ) → overrules S v warning ≡ true
+    → (triggers S v warning ≡ true) × (ltb (standingRank (v .standing)) (rank warning) ≡ true)
+unfolding overrules
+overruled S v warning o = both-true _ _ o
+
+-- the numbers of the list are warnings, and no rank is above the one before it, the first not above r
+abbrev Falling : ℕ → List ℕ → Type 0
+Falling r [] = Unit {0}
+Falling r (w ∷ ws) = (1 ≤ w) × (rank w ≤ r) × Falling (rank w) ws
+
+none-above : (r : ℕ) (ws : List ℕ) → Falling r ws → (w : ℕ) → List·Memᴰ w ws → rank w ≤ r
+none-above r [] f w i = absurd (List·Memᴰ·not-nil i)
+none-above r (u ∷ ws) f w i =
+    elim (List·Memᴰ·cases-cons i) [ inl e ↦ rw e (f .1) | inr j ↦ omega (arith, f .1, none-above (rank u) ws (f .2) w j) ]
 
 module _ (S : Settings) (v : View) where
-  which : (warning : ℕ) → overrules S v warning ≡ true → (warning ≡ 1) ⊎ ((warning ≡ 2) ⊎ (warning ≡ 3))
-  unfolding overrules
-  which warning e = one-of-three S v warning (both-true _ _ e .0)
+  -- what `highestOf` finds of a list
+  record Found (ws : List ℕ) (h : ℕ) : Type 0 where
+    is-one : (h ≡ 0 → ⊥) → overrules S v h ≡ true
+    above-all : (w : ℕ) → List·Memᴰ w ws → overrules S v w ≡ true → rank w ≤ rank h
+    some : (w : ℕ) → List·Memᴰ w ws → overrules S v w ≡ true → h ≡ 0 → ⊥
 
-  -- a warning of which it is known that it does not overrule
-  other : {A : Type 0} (warning w : ℕ) → overrules S v w ≡ false → overrules S v warning ≡ true → warning ≡ w → A
-  other warning w e t p = absurd (false≢true (sym e ∙ ap (overrules S v) (sym p) ∙ t))
-
-  by-rank : (a b c : Bool) → overrules S v 3 ≡ a → overrules S v 2 ≡ b → overrules S v 1 ≡ c
-      → TheHighest S v (cond a 3 (cond b 2 (cond c 1 0)))
-  unfolding rank
-  by-rank true b c e f g = record {
-    is-one = λ z. e;
-    above-all = λ w t. elim (which w t) [ inl p ↦ rw p (omega arith) | inr q ↦ elim q [ inl p ↦ rw p (omega arith) | inr p ↦ rw p (omega arith) ] ];
-    some = λ w t z. omega arith;
-  }
-  by-rank false true c e f g = record {
-    is-one = λ z. f;
-    above-all = λ w t. elim (which w t) [ inl p ↦ rw p (omega arith) | inr q ↦ elim q [ inl p ↦ rw p (omega arith) | inr p ↦ other w 3 e t p ] ];
-    some = λ w t z. omega arith;
-  }
-  by-rank false false true e f g = record {
-    is-one = λ z. g;
-    above-all = λ w t. elim (which w t) [ inl p ↦ rw p (omega arith) | inr q ↦ elim q [ inl p ↦ other w 2 f t p | inr p ↦ other w 3 e t p ] ];
-    some = λ w t z. omega arith;
-  }
-  by-rank false false false e f g = record {
-    is-one = λ z. absurd (z refl);
-    above-all = λ w t. elim (which w t) [ inl p ↦ other w 1 g t p | inr q ↦ elim q [ inl p ↦ other w 2 f t p | inr p ↦ other w 3 e t p ] ];
-    some = λ w t z. elim (which w t) [ inl p ↦ other w 1 g t p | inr q ↦ elim q [ inl p ↦ other w 2 f t p | inr p ↦ other w 3 e t p ] ];
-  }
+  found : (r : ℕ) (ws : List ℕ) → Falling r ws → Found ws (highestOf S v ws)
+  unfolding highestOf
+  found r [] f =
+      record { is-one = λ z. absurd (z refl); above-all = λ w i o. absurd (List·Memᴰ·not-nil i); some = λ w i o z. List·Memᴰ·not-nil i }
+  found r (u ∷ ws) f = go (overrules S v u) refl (found (rank u) ws (f .2))
+    where
+      go : (b : Bool) → overrules S v u ≡ b → Found ws (highestOf S v ws) → Found (u ∷ ws) (cond b u (highestOf S v ws))
+      go true e ih =
+          record {
+            is-one = λ z. e;
+            above-all = λ w i o. elim (List·Memᴰ·cases-cons i) [ inl p ↦ rw p (omega arith) | inr j ↦ none-above (rank u) ws (f .2) w j ];
+            some = λ w i o z. omega (arith, f .0);
+          }
+      go false e ih =
+          let other : (w : ℕ) → List·Memᴰ w (u ∷ ws) → overrules S v w ≡ true → List·Memᴰ w ws =
+          λ w i o. elim (List·Memᴰ·cases-cons i) [ inl p ↦ absurd (false≢true (sym e ∙ ap (overrules S v) (sym p) ∙ o)) | inr j ↦ j ] in
+          record {
+            is-one = ih .is-one;
+            above-all = λ w i o. ih .above-all w (other w i o) o;
+            some = λ w i o. ih .some w (other w i o) o;
+          }
 
   -- "New of the highest"
   pub highest-in-words : TheHighest S v (highest S v)
-  unfolding highest highestOf
-  highest-in-words = by-rank (overrules S v 3) (overrules S v 2) (overrules S v 1) refl refl refl
+  unfolding highest rank
+  highest-in-words =
+      let f = found 3 byRank (omega arith, omega arith, (omega arith, omega arith, (omega arith, omega arith, tt))) in
+      let among : (w : ℕ) → overrules S v w ≡ true → List·Memᴰ w byRank = λ w o. triggers-listed S v w (overruled S v w o .0) in
+      record { is-one = f .is-one; above-all = λ w o. f .above-all w (among w o) o; some = λ w o. f .some w (among w o) o }
+
+  -- so rule 1 raises a warning that triggers and outranks the standing one
+  pub highest-overrules : eqb (highest S v) 0 ≡ false → overrules S v (highest S v) ≡ true
+  highest-overrules q = highest-in-words .is-one (λ z. false≢true (sym q ∙ eq-eqb (highest S v) 0 z))

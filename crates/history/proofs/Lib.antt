@@ -1,6 +1,7 @@
 pub mod StepMatchesHistory
 pub mod GivenInOrder
 pub mod AtMostOneStands
+pub mod StandsByMessages
 pub mod OneCancelBetweenNews
 pub mod StateMade
 pub mod InRange

@@ -1,13 +1,12 @@
 -- Every message that the history reading gives is one that refusal 14 admits: after any accepted samples, up to ten million.
 -- Assumes nothing.
 use mathlib.Core.Path.{_≡_, refl}
-use mathlib.Core.Bool.{Bool, true, false, _&&_, cond}
+use mathlib.Core.Bool.{Bool, true, false, cond}
 use mathlib.Core.List.{List, [], _∷_, _++_}
 use Prim.Native.Nat.{ℕ, _+_, _≤_, _<_}
 use native.Mathlib.Omega.{arith}
-use borrow.Author.Tests.{ne-eqb}
-use lib.Dec.{T, ltb, eqb, ltb→lt}
-use lib.Ieee.Fits.{and-l, and-r}
+use borrow.Author.Tests.{ltb-true, ne-eqb}
+use lib.Dec.{T, eqb}
 use Rattle.wire.specs.Outcome.{firstFault}
 use Rattle.wire.proofs.Tests.{true-holds}
 use Rattle.sample.specs.declared.Sample.{Sample}
@@ -22,10 +21,11 @@ use Rattle.history.specs.declared.Notice.{Notice}
 use Rattle.history.specs.declared.Notice.the-variants.{Nothing, Sent}
 use Rattle.history.specs.declared.View.{View}
 use Rattle.history.specs.declared.Decision.{Decision}
-use Rattle.history.specs.Rules.{Settings, new, update, rank, standingRank, triggers, overrules, highestOf, highest, reportOf, cancelOf, cancelStanding, cancelled, updateDue, silent, raise, keep, decide, noticed, givenBy}
-use Rattle.history.specs.History.{Past, present, size, filterAfter, messages, standing, events, started, lastCancel, countedFrom, counted, viewOf, givenAt, tickOf, after, givenDuring}
+use Rattle.history.specs.Rules.{Settings, new, update, rank, standingRank, triggers, overrules, highest, reportOf, cancelOf, cancelStanding, cancelDue, updateDue, silent, raise, keep, decide, noticed, givenBy}
+use Rattle.history.specs.History.{Past, present, size, filterAfter, messages, standingAfter, standing, events, started, lastCancel, countedFrom, counted, viewOf, givenAt, tickOf, after, givenDuring}
 use Rattle.history.proofs.GivenInOrder.{either}
 use Rattle.history.proofs.Reached.{tickWith, IfSent, LastReport, Reached, reached-none, quality-at-most-3, still-counted, given-aside, crash-counted}
+use Rattle.history.proofs.HighestInWords.{from-1-to-3, overruled, highest-overrules}
 use Rattle.history.proofs.ReportAdmitted.{report-admitted, cancel-admitted}
 use Rattle.history.proofs.TickNumbers.{size-after}
 
@@ -68,7 +68,7 @@ module _ (x : Sample) (past : Past) (r : Reached past) (f : Fields x) (few : siz
   }
 
   silent-fits : Fits silent
-  unfolding givenBy noticed messages size
+  unfolding givenBy noticed messages size standing standingAfter
   silent-fits = (
     tt,
     record {
@@ -77,7 +77,7 @@ module _ (x : Sample) (past : Past) (r : Reached past) (f : Fields x) (few : siz
       counted-by-now = omega arith;
       cancelled-by-now = omega arith;
       events-by-now = omega arith;
-      last-report = last-report-stays (standing ms) (r .last-report);
+      last-report = last-report-stays (standing past) (r .last-report);
     },
   )
 
@@ -90,8 +90,8 @@ module _ (x : Sample) (past : Past) (r : Reached past) (f : Fields x) (few : siz
     cancel-by-now = either (λ (k : ℕ). k ≤ size past) (eqb (m .warning) 3) (omega arith) (r .cancelled-by-now)
 
     -- "2. The standing one is cancelled"
-    cancel-fits : Fits (record { cancel = Sent (cancelOf (size past) m); report = Nothing })
-    unfolding givenBy noticed messages size cancelOf standing started counted lastCancel events
+    cancel-fits : Fits (record { cancel = cancelStanding (size past) (Sent m); report = Nothing })
+    unfolding givenBy noticed messages size cancelStanding cancelOf standing standingAfter started counted lastCancel events
     cancel-fits = (
       (cancel-passes, tt),
       record {
@@ -119,7 +119,7 @@ module _ (x : Sample) (past : Past) (r : Reached past) (f : Fields x) (few : siz
 
     -- "3. Update"
     update-fits : Fits (record { cancel = Nothing; report = Sent anUpdate })
-    unfolding givenBy noticed messages size reportOf standing started counted lastCancel events viewOf
+    unfolding givenBy noticed messages size reportOf standing standingAfter started counted lastCancel events viewOf
     update-fits = (
       (admits-it _ update-admitted, tt),
       record {
@@ -141,7 +141,7 @@ module _ (x : Sample) (past : Past) (r : Reached past) (f : Fields x) (few : siz
   keep-fits : (n : Notice) → IfSent (LastReport past) n → Fits (keep v n)
   unfolding keep viewOf
   keep-fits Nothing s = silent-fits
-  keep-fits (Sent m) s = either Fits (cancelled v m) (cancel-fits m s) (either Fits (updateDue v m) (update-fits m s) silent-fits)
+  keep-fits (Sent m) s = either Fits (cancelDue v m) (cancel-fits m s) (either Fits (updateDue v m) (update-fits m s) silent-fits)
 
   module _ (warning : ℕ) (low : 1 ≤ warning) (high : warning ≤ 3) (happened : warning ≡ 3 → 1 ≤ v .recent) where
     abbrev aNew : Message
@@ -157,17 +157,17 @@ module _ (x : Sample) (past : Past) (r : Reached past) (f : Fields x) (few : siz
         f
 
     -- a New, given after messages that leave the count of News and what 3 counts
-    new-reached : (given before : List Message) → messages (tickWith x given ∷ past) ≡ aNew ∷ before
+    new-reached : (given before : List Message) → messages (tickWith x given ∷ past) ≡ aNew ∷ before → standing (tickWith x given ∷ past) ≡ Sent aNew
         → events before ≡ events ms → lastCancel before ≤ size past → (warning ≡ 3 → lastCancel before ≡ lastCancel ms)
         → Reached (tickWith x given ∷ past)
-    unfolding size reportOf standing started counted countedFrom lastCancel events viewOf
-    new-reached given before e count cancelled same = record {
+    unfolding size reportOf started counted countedFrom lastCancel events viewOf
+    new-reached given before e stands count cancelled same = record {
       filter-valid = filter-next given;
       started-by-now = rw e (omega arith);
       counted-by-now = rw e (omega arith);
       cancelled-by-now = rw e (omega arith);
       events-by-now = rw e (omega arith);
-      last-report = rw e (record {
+      last-report = rw stands (record {
         admitted = new-admitted;
         no-cancel = tt;
         earlier = omega arith;
@@ -179,33 +179,29 @@ module _ (x : Sample) (past : Past) (r : Reached past) (f : Fields x) (few : siz
     -- "1. .. Cancel of the standing one, if any, then New of the highest"; one that 3 outranks is not 3, so its Cancel leaves what 3 counts
     raise-fits : (n : Notice) → IfSent (LastReport past) n → standingRank n < rank warning
         → Fits (record { cancel = cancelStanding (size past) n; report = Sent aNew })
-    unfolding givenBy noticed messages standingRank cancelStanding cancelOf lastCancel events
-    raise-fits Nothing s outranked = ((admits-it _ new-admitted, tt), new-reached _ ms refl refl (r .cancelled-by-now) (λ q. refl))
+    unfolding givenBy noticed messages standing standingAfter standingRank cancelStanding cancelOf reportOf lastCancel events
+    raise-fits Nothing s outranked = ((admits-it _ new-admitted, tt), new-reached _ ms refl refl refl (r .cancelled-by-now) (λ q. refl))
     raise-fits (Sent m) s outranked =
         let not-3 : warning ≡ 3 → m .warning ≡ 3 → ⊥ = λ q e. let z : rank (m .warning) ≡ rank warning = cc in omega arith in
-        ((cancel-passes m s, (admits-it _ new-admitted, tt)), new-reached _ (cancelOf (size past) m ∷ ms) refl refl (cancel-by-now m s) (λ q. rw (ne-eqb (m .warning) 3 (not-3 q))))
+        ((cancel-passes m s, (admits-it _ new-admitted, tt)), new-reached _ (cancelOf (size past) m ∷ ms) refl refl refl (cancel-by-now m s) (λ q. rw (ne-eqb (m .warning) 3 (not-3 q))))
 
   -- "A warning outranking the standing one triggers (with none standing, any)"
-  overrule-fits : (S : Settings) (warning : ℕ) → 1 ≤ warning → warning ≤ 3 → (T (triggers S v warning) → warning ≡ 3 → 1 ≤ v .recent)
-      → overrules S v warning ≡ true → Fits (raise v warning)
-  unfolding overrules raise viewOf
-  overrule-fits S warning low high happened e =
-      let triggered : Bool = triggers S v warning in
-      let outranks : Bool = ltb (standingRank (standing ms)) (rank warning) in
-      let t : T (triggered && outranks) = true-holds _ e in
-      raise-fits warning low high (happened (and-l triggered outranks t)) (standing ms) (r .last-report) (ltb→lt _ _ (and-r triggered outranks t))
+  overrule-fits : (S : Settings) (warning : ℕ) → overrules S v warning ≡ true → Fits (raise v warning)
+  unfolding raise viewOf triggers
+  overrule-fits S warning e =
+      let b = overruled S v warning e in
+      let range = from-1-to-3 S v warning (b .0) in
+      let happened : warning ≡ 3 → 1 ≤ v .recent = λ q. crash-counted v (true-holds _ (rw q at (b .0))) in
+      raise-fits warning (range .0) (range .1) happened (standing past) (r .last-report) (ltb-true _ _ (b .1))
 
   -- "At tick i, first that applies"
   decision-fits : (S : Settings) → Fits (decide S v)
-  unfolding decide highest highestOf triggers viewOf
-  decision-fits S = go (overrules S v 3) (overrules S v 2) (overrules S v 1) refl refl refl
+  unfolding decide viewOf
+  decision-fits S = go (eqb (highest S v) 0) refl
     where
-      go : (a b c : Bool) → overrules S v 3 ≡ a → overrules S v 2 ≡ b → overrules S v 1 ≡ c
-          → Fits (cond (eqb (cond a 3 (cond b 2 (cond c 1 0))) 0) (keep v (standing ms)) (raise v (cond a 3 (cond b 2 (cond c 1 0)))))
-      go true b c e₃ e₂ e₁ = overrule-fits S 3 (omega arith) (omega arith) (λ t q. crash-counted v t) e₃
-      go false true c e₃ e₂ e₁ = overrule-fits S 2 (omega arith) (omega arith) (λ t q. absurd (omega arith)) e₂
-      go false false true e₃ e₂ e₁ = overrule-fits S 1 (omega arith) (omega arith) (λ t q. absurd (omega arith)) e₁
-      go false false false e₃ e₂ e₁ = keep-fits (standing ms) (r .last-report)
+      go : (b : Bool) → eqb (highest S v) 0 ≡ b → Fits (cond b (keep v (standing past)) (raise v (highest S v)))
+      go true q = keep-fits (standing past) (r .last-report)
+      go false q = overrule-fits S (highest S v) (highest-overrules S v q)
 
 -- ---- the theorems
 

@@ -16,7 +16,7 @@ use Rattle.history.specs.declared.Notice.{Notice}
 use Rattle.history.specs.declared.Notice.the-variants.{Nothing, Sent}
 use Rattle.history.specs.declared.View.{View}
 use Rattle.history.specs.Rules.{crashTriggers}
-use Rattle.history.specs.History.{Tick, Past, present, size, since, filterAfter, messages, isCancel, standing, events, started, lastCancel, counted, ecallPressed, lowSeverity, highSeverity, highestQuality}
+use Rattle.history.specs.History.{Tick, Past, present, size, someFrom, filterAfter, messages, isCancel, standing, events, started, lastCancel, counted, ecallPressed, lowSeverity, highSeverity, highestQuality}
 
 -- a notice's message, if it has one, has P
 abbrev pub IfSent : (Message → Type 0) → Notice → Type 0
@@ -42,7 +42,7 @@ pub record Reached (past : Past) : Type 0 where
   pub counted-by-now : counted (messages past) ≤ size past
   pub cancelled-by-now : lastCancel (messages past) ≤ size past
   pub events-by-now : events (messages past) ≤ size past
-  pub last-report : IfSent (LastReport past) (standing (messages past))
+  pub last-report : IfSent (LastReport past) (standing past)
 
 -- before tick 0
 pub reached-none : Reached []
@@ -61,7 +61,7 @@ reached-none = record {
 -- "the highest of eCall 1, low severity or pedestrian 2, high severity 3"
 pub quality-at-most-3 : (j : ℕ) (h : Past) → highestQuality j h ≤ 3
 unfolding highestQuality
-quality-at-most-3 j h = go (since j highSeverity h) (since j lowSeverity h) (since j ecallPressed h)
+quality-at-most-3 j h = go (someFrom j highSeverity h) (someFrom j lowSeverity h) (someFrom j ecallPressed h)
   where
     go : (a b c : Bool) → cond a 3 (cond b 2 (cond c 1 0)) ≤ 3
     go true b c = omega arith
@@ -71,10 +71,10 @@ quality-at-most-3 j h = go (since j highSeverity h) (since j lowSeverity h) (sin
 
 -- "happenings from the first counted tick of its New up to now": what was counted at a tick is counted at the next
 pub still-counted : (j : ℕ) (t : Tick) (past : Past) → 1 ≤ highestQuality j past → 1 ≤ highestQuality j (t ∷ past)
-unfolding highestQuality since
+unfolding highestQuality someFrom
 still-counted j t past h =
     let late : Bool = leb j (size past) in
-    go (late && highSeverity t past) (since j highSeverity past) (late && lowSeverity t past) (since j lowSeverity past) (late && ecallPressed t past) (since j ecallPressed past) h
+    go (late && highSeverity t past) (someFrom j highSeverity past) (late && lowSeverity t past) (someFrom j lowSeverity past) (late && ecallPressed t past) (someFrom j ecallPressed past) h
   where
     go : (a a₀ b b₀ c c₀ : Bool) → 1 ≤ cond a₀ 3 (cond b₀ 2 (cond c₀ 1 0)) → 1 ≤ cond (a || a₀) 3 (cond (b || b₀) 2 (cond (c || c₀) 1 0))
     go true a₀ b b₀ c c₀ k = omega arith
@@ -87,7 +87,7 @@ still-counted j t past h =
 -- what is given at a tick is no happening
 pub given-aside : (j : ℕ) (x : Sample) (given : List Message) (past : Past)
     → 1 ≤ highestQuality j (present x ∷ past) → 1 ≤ highestQuality j (tickWith x given ∷ past)
-unfolding highestQuality since
+unfolding highestQuality someFrom
 given-aside j x given past h = h
 
 -- "It triggers on a high severity crash among them, or on any other if still at i."

@@ -56,7 +56,7 @@ reached-in-range past r most =
       le-leb (counted (messages past)) (size past) (r .counted-by-now),
       le-leb (lastCancel (messages past)) (size past) (r .cancelled-by-now),
       le-leb (events (messages past)) (size past) (r .events-by-now),
-      holds-true (standingInRange (size past) (standing (messages past))) (standing-in-range past (standing (messages past)) (r .last-report)),
+      holds-true (standingInRange (size past) (standing past)) (standing-in-range past (standing past) (r .last-report)),
     )
     tt
 

@@ -17,12 +17,12 @@ use Rattle.history.specs.declared.Log.{Log}
 use Rattle.history.specs.declared.State.{State}
 use Rattle.history.specs.declared.Decision.{Decision}
 use Rattle.history.specs.Rules.{Settings, decide, noticed, givenBy}
-use Rattle.history.specs.History.{Past, Fact, present, never, size, run, during, since, held, offHeld, filterAfter, stationary, parked, idling, braked, belted, ignited, doorOpen, bootOpen, bonnetOpen, conditionA, conditionB, conditionC, conditionD, oneOfAtoD, oneOfEtoH, wasIgnited, messages, standing, events, started, lastCancel, countedFrom, counted, ready, cycleOf, ecallPressed, lowSeverity, highSeverity, highestQuality, viewOf, givenAt, tickOf, after, givenDuring}
+use Rattle.history.specs.History.{Past, Fact, present, never, size, run, during, someFrom, held, offHeld, filterAfter, stationary, parked, idling, braked, belted, ignited, doorOpen, bootOpen, bonnetOpen, conditionA, conditionB, conditionC, conditionD, oneOfAtoD, oneOfEtoH, wasIgnited, messages, standingAfter, standing, events, started, lastCancel, countedFrom, counted, ready, cycleOf, ecallPressed, lowSeverity, highSeverity, highestQuality, viewOf, givenAt, tickOf, after, givenDuring}
 use Rattle.history.specs.State.{fresh, runsAfter, absentAfter, conditionsAt, cycleAfter, taken, qualityFrom, seen, logged, loggedNotice, withLog, step, stateAfter, stepsGive}
 
--- the log that messages leave, the newest first
-unfoldable pub logOf : List Message → Log
-logOf ms = record { standing = standing ms; started = started ms; counted = counted ms; cancelled = lastCancel ms; events = events ms }
+-- the log where n stands, of the messages, the newest first
+unfoldable pub logOf : Notice → List Message → Log
+logOf n ms = record { standing = n; started = started ms; counted = counted ms; cancelled = lastCancel ms; events = events ms }
 
 -- the state that a history leaves
 unfoldable pub stateOf : Past → State
@@ -45,7 +45,7 @@ stateOf h = record {
   first = cycleOf 1 h;
   second = cycleOf 2 h;
   absent = record { ecall = run (never ecallPressed) h; low = run (never lowSeverity) h; high = run (never highSeverity) h };
-  log = logOf (messages h);
+  log = logOf (standing h) (messages h);
 }
 
 -- a fresh state is that of no history
@@ -55,49 +55,53 @@ fresh-matches = refl
 
 -- the sample is taken
 taken-matches : (x : Sample) (past : Past) → taken (stateOf past) x ≡ stateOf (present x ∷ past)
-unfolding taken runsAfter conditionsAt absentAfter cycleAfter size stateOf logOf cycleOf run during filterAfter stationary held offHeld conditionA conditionB conditionC conditionD oneOfEtoH ready wasIgnited messages
+unfolding taken runsAfter conditionsAt absentAfter cycleAfter size stateOf logOf cycleOf run during filterAfter stationary held offHeld conditionA conditionB conditionC conditionD oneOfEtoH ready wasIgnited messages standing standingAfter
 taken-matches x past = refl
 
 -- the messages are logged
-logged-matches : (n : Notice) (ms : List Message) → loggedNotice (logOf ms) n ≡ logOf (reverseAux (noticed n) ms)
-unfolding loggedNotice logged logOf noticed standing started counted countedFrom lastCancel events
-logged-matches Nothing ms = refl
-logged-matches (Sent m) ms = refl
+logged-matches : (a n : Notice) (ms : List Message) → loggedNotice (logOf n ms) a ≡ logOf (standingAfter n (noticed a)) (reverseAux (noticed a) ms)
+unfolding loggedNotice logged logOf noticed standingAfter started counted countedFrom lastCancel events
+logged-matches Nothing n ms = refl
+logged-matches (Sent m) n ms = refl
 
-joined : (a b : Notice) (ms : List Message) → reverseAux (noticed a ++ noticed b) ms ≡ reverseAux (noticed b) (reverseAux (noticed a) ms)
-unfolding noticed
-joined Nothing b ms = refl
-joined (Sent m) b ms = refl
+both-logged : (a b n : Notice) (ms : List Message)
+    → loggedNotice (loggedNotice (logOf n ms) a) b ≡ logOf (standingAfter n (noticed a ++ noticed b)) (reverseAux (noticed a ++ noticed b) ms)
+unfolding noticed standingAfter
+both-logged a b n ms = rw (logged-matches a n ms) (logged-matches b _ _) ∙ joined a
+  where
+    joined : (a : Notice) → logOf (standingAfter (standingAfter n (noticed a)) (noticed b)) (reverseAux (noticed b) (reverseAux (noticed a) ms))
+        ≡ logOf (standingAfter n (noticed a ++ noticed b)) (reverseAux (noticed a ++ noticed b) ms)
+    joined Nothing = refl
+    joined (Sent m) = refl
 
 given-matches : (x : Sample) (d : Decision) (past : Past)
     → withLog (stateOf (present x ∷ past)) (loggedNotice (loggedNotice (stateOf (present x ∷ past) .log) (d .cancel)) (d .report))
     ≡ stateOf (record { sample = x; given = givenBy d } ∷ past)
-unfolding withLog givenBy stateOf size filterAfter run during cycleOf stationary held offHeld conditionA conditionB conditionC conditionD oneOfEtoH ready wasIgnited messages
-given-matches x d past =
-    rw (logged-matches (d .cancel) (messages past), logged-matches (d .report) (reverseAux (noticed (d .cancel)) (messages past)), joined (d .cancel) (d .report) (messages past))
+unfolding withLog givenBy stateOf size filterAfter run during cycleOf stationary held offHeld conditionA conditionB conditionC conditionD oneOfEtoH ready wasIgnited messages standing standingAfter
+given-matches x d past = rw (both-logged (d .cancel) (d .report) (standing past) (messages past))
 
 -- ---- a happening from tick j on, by the run of ticks without one
 
 later : (j n r : ℕ) → ltb (j + (r + 1)) (n + 1) ≡ ltb (j + r) n
 later j n r = rw (add-one r, add-one n, add-suc) (leb·suc-suc (suc (j + r)) n)
 
-since-step : (b c : Bool) (j n r : ℕ) → leb j n ≡ c → (c && b) || ltb (j + r) n ≡ ltb (j + cond (not b) (r + 1) 0) (n + 1)
-since-step true true j n r e = let h = leb-true j n e in sym (lt-ltb (j + 0) (n + 1) (omega arith))
-since-step true false j n r e =
+some-from-step : (b c : Bool) (j n r : ℕ) → leb j n ≡ c → (c && b) || ltb (j + r) n ≡ ltb (j + cond (not b) (r + 1) 0) (n + 1)
+some-from-step true true j n r e = let h = leb-true j n e in sym (lt-ltb (j + 0) (n + 1) (omega arith))
+some-from-step true false j n r e =
     let h = leb-false j n e in
     le-ltb (j + r) n (omega arith) ∙ sym (le-ltb (j + 0) (n + 1) (omega arith))
-since-step false true j n r e = sym (later j n r)
-since-step false false j n r e = sym (later j n r)
+some-from-step false true j n r e = sym (later j n r)
+some-from-step false false j n r e = sym (later j n r)
 
-pub since-run : (j : ℕ) (p : Fact) (h : Past) → since j p h ≡ ltb (j + run (never p) h) (size h)
-unfolding since run size
-since-run j p [] = sym (le-ltb (j + 0) 0 (omega arith))
-since-run j p (t ∷ past) =
-    rw (since-run j p past) (since-step (p t past) (leb j (size past)) j (size past) (run (never p) past) refl)
+pub some-from-run : (j : ℕ) (p : Fact) (h : Past) → someFrom j p h ≡ ltb (j + run (never p) h) (size h)
+unfolding someFrom run size
+some-from-run j p [] = sym (le-ltb (j + 0) 0 (omega arith))
+some-from-run j p (t ∷ past) =
+    rw (some-from-run j p past) (some-from-step (p t past) (leb j (size past)) j (size past) (run (never p) past) refl)
 
 quality-matches : (j : ℕ) (h : Past) → highestQuality j h ≡ qualityFrom j (size h) (stateOf h .absent)
 unfolding highestQuality qualityFrom stateOf
-quality-matches j h = rw (since-run j highSeverity h, since-run j lowSeverity h, since-run j ecallPressed h)
+quality-matches j h = rw (some-from-run j highSeverity h, some-from-run j lowSeverity h, some-from-run j ecallPressed h)
 
 -- ---- both readings look at the same
 

@@ -54,9 +54,9 @@ during p q [] = false
 during p q (t ∷ past) = cond (p t past) (q t past || during p q past) false
 
 -- p was true at some tick from tick j on
-unfoldable pub since : ℕ → Fact → Past → Bool
-since j p [] = false
-since j p (t ∷ past) = (leb j (size past) && p t past) || since j p past
+unfoldable pub someFrom : ℕ → Fact → Past → Bool
+someFrom j p [] = false
+someFrom j p (t ∷ past) = (leb j (size past) && p t past) || someFrom j p past
 
 -- "A fact is held for d at tick i if i is at least d and it is true at all ticks i-d to i."
 unfoldable pub held : ℕ → Fact → Fact
@@ -146,10 +146,15 @@ isNew m = eqb (m .kind) new
 abbrev pub isCancel : Message → Bool
 isCancel m = eqb (m .kind) cancel
 
--- the standing warning's last New or Update: the newest message, unless that is a Cancel
-unfoldable pub standing : List Message → Notice
+-- what the messages of a tick, in their order, leave standing of what stood before: the last of them, unless that is a Cancel
+unfoldable pub standingAfter : Notice → List Message → Notice
+standingAfter n [] = n
+standingAfter n (m ∷ ms) = standingAfter (cond (isCancel m) Nothing (Sent m)) ms
+
+-- the standing warning's last New or Update; "before tick 0 none stands"
+unfoldable pub standing : Past → Notice
 standing [] = Nothing
-standing (m ∷ ms) = cond (isCancel m) Nothing (Sent m)
+standing (t ∷ past) = standingAfter (standing past) (t .given)
 
 -- "the count of New messages so far"
 unfoldable pub events : List Message → ℕ
@@ -185,7 +190,7 @@ precondition warning x =
 -- "the need is met and no warning of equal or higher rank stood after the tick before"
 unfoldable pub ready : ℕ → Fact
 ready warning t past =
-    stationary t past && precondition warning (t .sample) && ltb (standingRank (standing (messages past))) (rank warning)
+    stationary t past && precondition warning (t .sample) && ltb (standingRank (standing past)) (rank warning)
 
 -- "Their cycle at i is the longest run of ticks ending at i, at each of which .."
 unfoldable pub cycleOf : ℕ → Past → Cycle
@@ -212,7 +217,7 @@ highSeverity t past = happeningsOf (t .sample) .high
 -- "the highest of eCall 1, low severity or pedestrian 2, high severity 3, among happenings from" tick j on; 0 for none
 unfoldable pub highestQuality : ℕ → Past → ℕ
 highestQuality j h =
-    cond (since j highSeverity h) 3 (cond (since j lowSeverity h) 2 (cond (since j ecallPressed h) 1 0))
+    cond (someFrom j highSeverity h) 3 (cond (someFrom j lowSeverity h) 2 (cond (someFrom j ecallPressed h) 1 0))
 
 -- ---- what is looked at, and what is given
 
@@ -223,7 +228,7 @@ viewOf x past =
     record {
       tick = size past;
       sample = x;
-      standing = standing ms;
+      standing = standing past;
       started = started ms;
       events = events ms;
       stationary = run stationary h;

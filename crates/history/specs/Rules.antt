@@ -5,6 +5,7 @@ use mathlib.Core.Bool.{Bool, false, not, _&&_, _||_, cond}
 use mathlib.Core.List.{List, [], _∷_, _++_}
 use lib.Dec.{leb, ltb, eqb}
 use lib.IntN.{ℤ, natAbs, _-ℤ_}
+use lib.ListN.{getD}
 use Rattle.sample.specs.declared.Position.{Position}
 use Rattle.sample.specs.Sample.{switchesOf}
 use Rattle.message.specs.declared.Message.{Message}
@@ -38,6 +39,10 @@ cancel = 3
 unfoldable pub rank : ℕ → ℕ
 rank warning = byWarning 1 2 3 warning
 
+-- the warnings by falling rank
+abbrev pub byRank : List ℕ
+byRank = 3 ∷ 2 ∷ 1 ∷ []
+
 -- the rank of the standing warning
 unfoldable pub standingRank : Notice → ℕ
 standingRank Nothing = 0
@@ -62,11 +67,10 @@ cycleTriggers S c =
 unfoldable pub crashTriggers : View → Bool
 crashTriggers v = eqb (v .recent) 3 || (ltb 0 (v .recent) && ltb 0 (v .stationary))
 
+-- by the warning's number; no other number triggers
 unfoldable pub triggers : Settings → View → ℕ → Bool
 triggers S v warning =
-    cond (eqb warning 1) (cycleTriggers S (v .first))
-    (cond (eqb warning 2) (cycleTriggers S (v .second))
-    (cond (eqb warning 3) (crashTriggers v) false))
+    getD (false ∷ cycleTriggers S (v .first) ∷ cycleTriggers S (v .second) ∷ crashTriggers v ∷ []) warning false
 
 -- "A warning outranking the standing one triggers (with none standing, any)"
 unfoldable pub overrules : Settings → View → ℕ → Bool
@@ -78,7 +82,7 @@ highestOf S v [] = 0
 highestOf S v (warning ∷ lower) = cond (overrules S v warning) warning (highestOf S v lower)
 
 unfoldable pub highest : Settings → View → ℕ
-highest S v = highestOf S v (3 ∷ 2 ∷ 1 ∷ [])
+highest S v = highestOf S v byRank
 
 -- ---- the message
 
@@ -124,6 +128,7 @@ cancelOf tick m = record {
   validity = m .validity;
 }
 
+-- the Cancel of the standing one, if any
 unfoldable pub cancelStanding : ℕ → Notice → Notice
 cancelStanding tick Nothing = Nothing
 cancelStanding tick (Sent m) = Sent (cancelOf tick m)
@@ -151,8 +156,8 @@ unfoldable pub hazardOff : View → Message → Bool
 hazardOff v m = not (eqb (m .warning) 3) && not (switchesOf (v .sample) .hazard)
 
 -- "2. The standing one is cancelled"
-unfoldable pub cancelled : View → Message → Bool
-cancelled v m = drivenOff v m || hazardOff v m || distanceExceeded (v .sample .position) (measuredFrom m)
+unfoldable pub cancelDue : View → Message → Bool
+cancelDue v m = drivenOff v m || hazardOff v m || distanceExceeded (v .sample .position) (measuredFrom m)
 
 -- "3. Update: 150 ticks (warning 3: 600, U) since its last New or Update, or ignition off now and on at the tick before"
 unfoldable pub updateDue : View → Message → Bool
@@ -172,7 +177,7 @@ raise v warning = record {
 unfoldable pub keep : View → Notice → Decision
 keep v Nothing = silent
 keep v (Sent m) =
-    cond (cancelled v m) (record { cancel = Sent (cancelOf (v .tick) m); report = Nothing })
+    cond (cancelDue v m) (record { cancel = cancelStanding (v .tick) (Sent m); report = Nothing })
     (cond (updateDue v m) (record { cancel = Nothing; report = Sent (reportOf update (m .warning) (v .events) (v .kept) v) }) silent)
 
 -- "At tick i, first that applies"

@@ -66,9 +66,9 @@ pub record ItsNew (e : ℕ) (ms : List Message) (n : Message) (older : List Mess
   pub is-new : isNew n ≡ true
   pub own : n .event ≡ e
 
--- "no warning of equal or higher rank stood", of the messages given up to then
-abbrev pub NoneAsHigh : ℕ → List Message → Type 0
-NoneAsHigh r ms = (e : ℕ) (n : Message) (older : List Message) → Stands e ms → ItsNew e ms n older → rank (n .warning) < r
+-- "no warning of equal or higher rank stood", of those that stand after the ticks
+abbrev pub NoneAsHigh : ℕ → Past → Type 0
+NoneAsHigh r h = (n : Message) → Stands n h → rank (n .warning) < r
 
 -- ---- the cycles of warnings 1 and 2
 

@@ -14,15 +14,15 @@ returns : tie.Need-returns
 unfolding keep
 returns c = simp (c .enum-told .given .1)
 
-is-cancelled-requires : tie.Need-is-cancelled-requires
-is-cancelled-requires c κs = (c .before .before .before .pre .0, c .before .before .before .pre .0 .standing _ (sym (c .before .before .before .pre .1) ∙ c .before .standing .given .1))
+cancel-due-requires : tie.Need-cancel-due-requires
+cancel-due-requires c κs = (c .before .before .before .pre .0, c .before .before .before .pre .0 .standing _ (sym (c .before .before .before .pre .1) ∙ c .before .standing .given .1))
 
-cancel-of-requires : tie.Need-cancel-of-requires
-cancel-of-requires c κs = search needs
+cancel-standing-requires : tie.Need-cancel-standing-requires
+cancel-standing-requires c κs = search needs
 
 returns-2 : tie.Need-returns-2
 unfolding keep
-returns-2 c = simp (c .before .before .before .before .standing .given .1, ← c .before .before .is-cancelled .ensures, c .before .if1 .taken, c .cancel-of .ensures)
+returns-2 c = simp (c .before .before .before .before .standing .given .1, ← c .before .before .cancel-due .ensures, c .before .if1 .taken, c .cancel-standing .ensures)
 
 update-due-requires : tie.Need-update-due-requires
 update-due-requires c κs = c .before .before .before .before .before .pre .0 .standing _ (sym (c .before .before .before .before .before .pre .1) ∙ c .before .before .before .standing .given .1)
@@ -32,11 +32,11 @@ report-of-requires c κs = search needs
 
 returns-3 : tie.Need-returns-3
 unfolding keep
-returns-3 c = simp (c .before .before .before .before .before .before .standing .given .1, ← c .before .before .before .before .is-cancelled .ensures, c .before .before .before .if1 .left, ← c .before .before .update-due .ensures, c .before .if2 .taken, c .report-of .ensures)
+returns-3 c = simp (c .before .before .before .before .before .before .standing .given .1, ← c .before .before .before .before .cancel-due .ensures, c .before .before .before .if1 .left, ← c .before .before .update-due .ensures, c .before .if2 .taken, c .report-of .ensures)
 
 returns-4 : tie.Need-returns-4
 unfolding keep
-returns-4 c = simp (c .before .before .before .before .before .standing .given .1, ← c .before .before .before .is-cancelled .ensures, c .before .before .if1 .left, ← c .before .update-due .ensures, c .if2 .left)
+returns-4 c = simp (c .before .before .before .before .before .standing .given .1, ← c .before .before .before .cancel-due .ensures, c .before .before .if1 .left, ← c .before .update-due .ensures, c .if2 .left)
 
 pub keep-spec : {M : Type 1} → statement M
 keep-spec =
@@ -45,8 +45,8 @@ keep-spec =
     enum-known-standing
     enum-told
     returns
-    is-cancelled-requires
-    cancel-of-requires
+    cancel-due-requires
+    cancel-standing-requires
     returns-2
     update-due-requires
     report-of-requires
