@@ -30,21 +30,42 @@ extern "C" {
 
 /* The engine lives in memory that the caller lends: an image of this many bytes, no more and no fewer. It holds the whole engine and
  * no pointer, so a unit may copy it, keep it over a restart and go on with it. Its bytes, little-endian:
- *   0-3    samples taken
- *   4-7    the bits of the filter's value, an IEEE 754 binary32 number; 0 without a reading yet
- *   8-15   ticks stationary and moving up to now
- *   16-47  ticks of park, idle, parking brake, belt off, ignition off, door, boot, bonnet open up to now
- *   48-55  ticks of the detection cycles of warnings 1 and 2
- *   56-67  ticks without eCall, without a low severity crash or pedestrian collision, without a high severity crash
- *   68-83  tick of the last New, the first tick that it counted, tick of the last Cancel of warning 3, number of News
- *   84     1 once the filter has a reading, else 0
- *   85     1 if ignition was on at the last sample, else 0
- *   86-95  1 or 0, for the cycle of warning 1 and then of 2: park, idle, brake, belt fulfilled in it, an expiring condition
- *   96     1 while a warning stands, else 0
- *   97-128 the standing warning's last New or Update, as a message; zeros while none stands
- * Every byte of a fresh image is 0. Any other memory is refused with 21: of another length, with a number outside the ranges of
- * refusal 21, or with a byte that no engine's image has in its place. */
-#define YOLDRIM_ENGINE_BYTES 129
+ *   0        YOLDRIM_ENGINE_LAYOUT
+ *   1        1 once the filter has a reading, else 0
+ *   2        1 if ignition was on at the last sample, else 0
+ *   3-7      1 or 0, for the cycle of warning 1: park, idle, brake, belt fulfilled in it, an expiring condition
+ *   8-12     1 or 0, for the cycle of warning 2: the same
+ *   13       1 while a warning stands, else 0
+ *   14-45    the standing warning's last New or Update, as a message; zeros while none stands
+ *   46-49    samples taken
+ *   50-53    the bits of the filter's value, an IEEE 754 binary32 number; 0 without a reading yet
+ *   54-57    ticks of the detection cycle of warning 1
+ *   58-61    ticks of the detection cycle of warning 2
+ *   62-65    tick of the last New
+ *   66-69    first tick that the last New counted
+ *   70-73    tick of the last Cancel of warning 3
+ *   74-77    number of News
+ *   78-81    ticks stationary up to now
+ *   82-85    ticks moving up to now
+ *   86-89    ticks in park up to now
+ *   90-93    ticks in idle up to now
+ *   94-97    ticks with the parking brake on up to now
+ *   98-101   ticks with the belt off up to now
+ *   102-105  ticks with ignition off up to now
+ *   106-109  ticks with a door open up to now
+ *   110-113  ticks with the boot open up to now
+ *   114-117  ticks with the bonnet open up to now
+ *   118-121  ticks without eCall up to now
+ *   122-125  ticks without a low severity crash or pedestrian collision up to now
+ *   126-129  ticks without a high severity crash up to now
+ * A fresh image has 0 in every byte but the first. Memory that is no image is refused with 21: of another length or layout, with a
+ * number outside the ranges of refusal 21, or with a byte that no engine's image has in its place. */
+#define YOLDRIM_ENGINE_BYTES 130
+
+/* The layout's number, the first byte of every image. An image may outlive the software that saved it: every change of the engine's
+ * state raises this number, and an image of another layout is refused with 21 and left as it was, never misread. A unit whose kept
+ * image is refused begins fresh. */
+#define YOLDRIM_ENGINE_LAYOUT 1
 
 /* Makes the image of an engine that has taken no sample. Answers 0; -21 for another length than YOLDRIM_ENGINE_BYTES, also a longer
  * one. */

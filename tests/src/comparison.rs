@@ -64,6 +64,11 @@ impl<'a> Comparison<'a> {
         self.reference.fresh();
     }
 
+    /// The unit's engine as bytes, where it shows them.
+    pub fn image(&self) -> &[u8] {
+        self.unit.image()
+    }
+
     /// T, as the reference has it.
     pub fn taken(&self) -> usize {
         self.reference.taken()

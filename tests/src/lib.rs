@@ -7,6 +7,8 @@ pub mod days;
 pub mod faults;
 #[cfg(library)]
 pub mod ffi;
+#[cfg(library)]
+pub mod layout;
 pub mod plain;
 pub mod printing;
 pub mod random;

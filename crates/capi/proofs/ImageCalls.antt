@@ -18,27 +18,34 @@ use Rattle.wire.proofs.Splice.{splice-overlay}
 use Rattle.sample.specs.declared.Sample.{Sample}
 use Rattle.history.specs.declared.State.{State}
 use Rattle.history.specs.Rules.{unitSettings}
+use Rattle.history.specs.Runs.{runCount}
 use Rattle.history.specs.State.{stateAfter, stepsGive}
 use Rattle.engine.specs.declared.Engine.{Engine}
 use Rattle.engine.specs.declared.Called.{Called}
 use Rattle.engine.specs.Calls.{Call, lent, samplesAdded, callEngine, callAnswer, callMemory, engineFault, Meets}
-use Rattle.image.specs.Image.{imageOf, stateIn, engineIn, isImage}
+use Rattle.image.specs.Image.{imageSize, imageOf, stateIn, engineIn, isImage}
+use Rattle.image.proofs.NumbersIn.{runs-in-length}
+use Rattle.image.proofs.RunsKept.{runs-kept}
 use Rattle.image.proofs.SavedParts.{image-length}
 use Rattle.image.proofs.LoadOfSave.{is-image}
 use Rattle.capi.specs.Imaged.{answerNumber, imageFault, callImage, ImageMeets, imageKept}
 use Rattle.capi.proofs.Numbers.{again}
 
 -- an image written over memory of its length
-pub image-written : (s : State) (image : List ℕ) → length image ≡ 129 → splice image 0 (imageOf s) ≡ imageOf s
+pub image-written : (s : State) (image : List ℕ) → length (s .runs) ≡ runCount → length image ≡ imageSize → splice image 0 (imageOf s) ≡ imageOf s
 unfolding overlay
-image-written s image h =
-    let n = image-length s in
+image-written s image size h =
+    let n = image-length s size in
     let end : length image ≤ length (imageOf s) = omega arith in
     let rest : drop (length (imageOf s)) image ≡ [] = drop-of-length-le image end in
     splice-overlay image (imageOf s) (omega arith) ∙ rw (rest, append-nil)
 
+state-runs : (image : List ℕ) → length (stateIn image .runs) ≡ runCount
+unfolding stateIn
+state-runs image = runs-in-length image
+
 -- what was kept, by the engine's promise
-kept-image : (fault : ℕ) (xs : List Sample) (image : List ℕ) → length image ≡ 129
+kept-image : (fault : ℕ) (xs : List Sample) (image : List ℕ) → length image ≡ imageSize
     → imageKept (callAnswer fault xs (engineIn image)) (callEngine fault xs (engineIn image) .state) image ≡ callImage fault xs image
 unfolding callAnswer callEngine callImage outcome imageKept
 kept-image fault xs image h = go (eqb fault 0)
@@ -46,7 +53,7 @@ kept-image fault xs image h = go (eqb fault 0)
     go : (b : Bool) → imageKept (cond b (accepted (length (stepsGive unitSettings (stateIn image) xs))) (refused fault))
         ((cond b (record { state = stateAfter unitSettings (stateIn image) xs }) (engineIn image)) .state) image
         ≡ cond b (imageOf (stateAfter unitSettings (stateIn image) xs)) image
-    go true = image-written (stateAfter unitSettings (stateIn image) xs) image h
+    go true = image-written (stateAfter unitSettings (stateIn image) xs) image (runs-kept unitSettings (stateIn image) xs (state-runs image)) h
     go false = refl
 
 module _ (image : List ℕ) (c : Call) where

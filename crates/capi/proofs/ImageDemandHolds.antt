@@ -9,7 +9,9 @@ use lib.ListN.{length}
 use Rattle.sample.specs.declared.Sample.{Sample}
 use Rattle.history.specs.declared.State.{State}
 use Rattle.history.specs.Rules.{unitSettings}
+use Rattle.history.specs.Runs.{runCount, facts, runsOf}
 use Rattle.history.specs.State.{fresh, stateAfter}
+use Rattle.history.proofs.StepMatchesHistory.{stateOf}
 use Rattle.engine.specs.declared.Engine.{Engine}
 use Rattle.engine.specs.Calls.{Call, lent, samplesAdded, callAnswer, callMemory}
 use Rattle.engine.specs.Demand.{documentFault, documentResult, acceptedAfter, documentResults}
@@ -24,11 +26,15 @@ use Rattle.capi.specs.ImageDemand.{ImageResult, numbered, ImageRun, ende
 abbrev imageAt : List Sample → List ℕ
 imageAt before = imageOf (engineAt before .state)
 
+runs-at : (before : List Sample) → length (engineAt before .state .runs) ≡ runCount
+unfolding engineAt stateOf runsOf facts
+runs-at before = refl
+
 -- ---- one call
 
 module _ (before : List Sample) (a : Accepted before) (c : Call) where
   state-again : stateIn (imageAt before) ≡ engineAt before .state
-  state-again = state-in-image (engineAt before .state) (in-range before a) (filter-f32 before a)
+  state-again = state-in-image (engineAt before .state) (in-range before a) (runs-at before) (filter-f32 before a)
 
   engine-again : engineIn (imageAt before) ≡ engineAt before
   engine-again = ap (λ (s : State). record { state = s }) state-again
@@ -36,7 +42,7 @@ module _ (before : List Sample) (a : Accepted before) (c : Call) where
   same-fault : imageFault (imageAt before) c ≡ documentFault (length before) c
   unfolding imageFault documentFault
   same-fault =
-      let i : isImage (imageAt before) ≡ true = image-is-image (engineAt before .state) (in-range before a) (filter-f32 before a) in
+      let i : isImage (imageAt before) ≡ true = image-is-image (engineAt before .state) (in-range before a) (runs-at before) (filter-f32 before a) in
       rw (i, state-again, taken-of before)
 
   number-at : answerNumber (callAnswer (imageFault (imageAt before) c) (samplesAdded c) (engineIn (imageAt before))) ≡ answerNumber (documentResult before c .answer)

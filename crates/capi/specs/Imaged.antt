@@ -15,7 +15,7 @@ use Rattle.history.specs.declared.State.{State}
 use Rattle.history.specs.Rules.{unitSettings}
 use Rattle.history.specs.State.{fresh, stateAfter}
 use Rattle.engine.specs.Calls.{Call, lent, samplesAdded, callFault, callAnswer, callMemory}
-use Rattle.image.specs.Image.{imageOf, stateIn, engineIn, isImage}
+use Rattle.image.specs.Image.{imageSize, imageOf, stateIn, engineIn, isImage}
 
 -- an accepted call answers its count, a refused one minus the refusal number
 unfoldable pub answerNumber : Outcome ℕ → ℤ
@@ -43,7 +43,7 @@ pub record ImageMeets (before : List ℕ) (c : Call) (r : ℤ) (after last : Lis
 
 -- refusal 21 for memory of another length than an image's
 unfoldable pub freshFault : List ℕ → ℕ
-freshFault image = firstFault (check 21 (not (eqb (length image) 129)) ∷ [])
+freshFault image = firstFault (check 21 (not (eqb (length image) imageSize)) ∷ [])
 
 unfoldable pub freshNumber : List ℕ → ℤ
 freshNumber image = answerNumber (outcome (freshFault image) 0)

@@ -10,23 +10,24 @@ ghost use Rattle.engine.specs.Calls.{sampleCall, blockCall};
 ghost use Rattle.capi.specs.Imaged.{answerNumber, checkNumber, imageKept, ImageMeets};
 ghost use Rattle.capi.specs.ImageDemand.{FreshImaged};
 use engine::Called;
-use image::Loading;
+use engine::Engine;
+use image::BYTES;
 use message::Reading;
 use wire::Answer;
 
 // The answer for memory that holds no image of an engine.
 const NO_ENGINE: i32 = -21;
 
-// Writes the image of an engine that has taken no sample. Each byte of that image is 0.
+// Writes the image of an engine that has taken no sample.
 #[no_mangle]
 pub extern "C" fn yoldrim_fresh(memory: &mut [u8]) -> i32
     ensures { λ r. ⌜ FreshImaged (now (memory .entry)) r (now (memory .exit)) ⌝ }
 {
-    if memory.len() != 129 {
+    if memory.len() != BYTES {
         return NO_ENGINE;
     }
-    let zeros = [0u8; 129];
-    wire::copy_at(memory, 0, &zeros);
+    let fresh = image::save(Engine::fresh());
+    wire::copy_at(memory, 0, &fresh);
     0
 }
 
@@ -42,13 +43,12 @@ pub extern "C" fn yoldrim_sample(memory: &mut [u8], bytes: &[u8], out: &mut [u8]
         return -2;
     }
     let loading = image::load(memory);
-    match loading {
-        Loading::Refused(_) => NO_ENGINE,
-        Loading::Accepted(e) => {
-            let called = e.step(bytes, out);
-            finish(called, memory)
-        }
+    if loading.fault != 0 {
+        return NO_ENGINE;
     }
+    let e = loading.engine;
+    let called = e.step(bytes, out);
+    finish(called, memory)
 }
 
 // Takes all samples of a block or none, and answers how many messages were written.
@@ -63,13 +63,12 @@ pub extern "C" fn yoldrim_block(memory: &mut [u8], bytes: &[u8], out: &mut [u8])
         return -2;
     }
     let loading = image::load(memory);
-    match loading {
-        Loading::Refused(_) => NO_ENGINE,
-        Loading::Accepted(e) => {
-            let called = e.block(bytes, out);
-            finish(called, memory)
-        }
+    if loading.fault != 0 {
+        return NO_ENGINE;
     }
+    let e = loading.engine;
+    let called = e.block(bytes, out);
+    finish(called, memory)
 }
 
 // Copies the samples of a block to the output, and answers how many they are.

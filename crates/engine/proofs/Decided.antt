@@ -1,30 +1,24 @@
 -- What the rules' functions need of numbers: the table's ticks are few, and an admitted message's place is within the limits.
 -- Assumes nothing.
 use mathlib.Core.Bool.{not}
-use Prim.Native.Nat.{ℕ, zero, suc, _≤_}
-use native.Mathlib.Omega.{arith}
-use lib.Dec.{T}
+use mathlib.Core.List.{[], _∷_}
+use Prim.Native.Nat.{ℕ, _≤_}
+use lib.Dec.{T, leb, leb→le}
 use lib.IntN.{natAbs}
 use Rattle.wire.proofs.Tests.{neither}
 use Rattle.sample.specs.declared.Position.{Position}
 use Rattle.sample.specs.Sample.{outside, beyond}
-use Rattle.message.specs.Warnings.{byWarning, rowOf}
+use Rattle.message.specs.Warnings.{rowOf}
+use Rattle.message.proofs.Table.{any-number}
 use Rattle.engine.proofs.Squares.{inside-small}
-
-by-warning-below : (a b d k w : ℕ) → a ≤ k → b ≤ k → d ≤ k → byWarning a b d w ≤ k
-by-warning-below a b d k zero h i j = omega arith
-by-warning-below a b d k (suc zero) h i j = h
-by-warning-below a b d k (suc (suc zero)) h i j = i
-by-warning-below a b d k (suc (suc (suc zero))) h i j = j
-by-warning-below a b d k (suc (suc (suc (suc n)))) h i j = omega arith
 
 pub delay-small : (w : ℕ) → rowOf w .delay ≤ 150
 unfolding rowOf
-delay-small w = by-warning-below 50 50 150 150 w (omega arith) (omega arith) (omega arith)
+delay-small w = leb→le _ _ (any-number (λ n. leb n 150) (50 ∷ 50 ∷ 150 ∷ []) w tt)
 
 pub period-small : (w : ℕ) → rowOf w .period ≤ 600
 unfolding rowOf
-period-small w = by-warning-below 150 150 600 600 w (omega arith) (omega arith) (omega arith)
+period-small w = leb→le _ _ (any-number (λ n. leb n 600) (150 ∷ 150 ∷ 600 ∷ []) w tt)
 
 -- both coordinates of a position within the limits
 pub coordinates-small : (p : Position) → T (not (beyond p)) → (natAbs (p .east) ≤ 1000000) × (natAbs (p .north) ≤ 1000000)

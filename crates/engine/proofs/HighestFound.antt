@@ -3,14 +3,15 @@
 use mathlib.Core.Path.{_≡_, refl, sym, _∙_}
 use mathlib.Core.Bool.{Bool, true, false, _&&_, cond}
 use mathlib.Core.List.{List, [], _∷_}
-use Prim.Native.Nat.{ℕ, _+_, _≤_, _<_}
+use Prim.Native.Nat.{ℕ, suc, _+_, _≤_, _<_}
 use native.Mathlib.Numerals.{add-one}
 use lib.Dec.{leb, ltb, leb→le}
 use lib.ListN.{getD, drop}
 use lib.Seq.{drop-cons}
-use Rattle.message.proofs.Table.{every-at}
+use Rattle.message.specs.Warnings.{warningCount, byRank}
+use Rattle.message.proofs.Table.{any-number}
 use Rattle.history.specs.declared.View.{View}
-use Rattle.history.specs.Rules.{Settings, rank, byRank, standingRank, cycleTriggers, crashTriggers, triggers, overrules, highestOf, highest}
+use Rattle.history.specs.Rules.{Settings, rank, standingRank, cycleTriggers, crashTriggers, triggers, overrules, highestOf, highest}
 
 -- whether a warning triggers by the table, and outranks
 abbrev pub overrulesBy : List Bool → ℕ → ℕ → Bool
@@ -23,15 +24,15 @@ firstBy triggered below (w ∷ ws) = cond (overrulesBy triggered below w) w (fir
 
 -- by falling rank it is the highest
 pub first-highest : (S : Settings) (v : View)
-    → firstBy (false ∷ cycleTriggers S (v .first) ∷ cycleTriggers S (v .second) ∷ crashTriggers v ∷ []) (standingRank (v .standing)) byRank ≡ highest S v
+    → firstBy (false ∷ cycleTriggers S (v .stoppedcycle) ∷ cycleTriggers S (v .brokendowncycle) ∷ crashTriggers v ∷ []) (standingRank (v .standing)) byRank ≡ highest S v
 unfolding firstBy highest highestOf overrules triggers
 first-highest S v = refl
 
 -- each number of the list has its place in the table
-pub listed-small : (i : ℕ) → i < 3 → getD byRank i 0 ≤ 3
-listed-small i within = leb→le _ _ (every-at (λ k w. leb w 3) byRank 0 tt i within)
+pub listed-small : (i : ℕ) → getD byRank i 0 ≤ warningCount
+listed-small i = leb→le _ _ (any-number (λ n. leb n warningCount) byRank (suc i) tt)
 
-module _ (triggered : List Bool) (below i r : ℕ) (within : i < 3) (ranked : r ≡ rank (getD byRank i 0)) where
+module _ (triggered : List Bool) (below i r : ℕ) (within : i < warningCount) (ranked : r ≡ rank (getD byRank i 0)) where
   -- one that overrules is found
   finds : getD triggered (getD byRank i 0) false && ltb below r ≡ true → firstBy triggered below (drop i byRank) ≡ getD byRank i 0
   unfolding firstBy
@@ -43,7 +44,7 @@ module _ (triggered : List Bool) (below i r : ℕ) (within : i < 3) (ranked : r 
   passes o = let b : overrulesBy triggered below (getD byRank i 0) ≡ false = rw (← ranked) o in rw (drop-cons byRank i 0 within, add-one i, b)
 
 module _ (S : Settings) (v : View) (first second crash : Bool) (below i : ℕ)
-    (cycle1 : first ≡ cycleTriggers S (v .first)) (cycle2 : second ≡ cycleTriggers S (v .second)) (crashed : crash ≡ crashTriggers v)
+    (cycle1 : first ≡ cycleTriggers S (v .stoppedcycle)) (cycle2 : second ≡ cycleTriggers S (v .brokendowncycle)) (crashed : crash ≡ crashTriggers v)
     (standing : below ≡ standingRank (v .standing)) where
   abbrev table : List Bool
   table = false ∷ first ∷ second ∷ crash ∷ []
@@ -53,9 +54,9 @@ module _ (S : Settings) (v : View) (first second crash : Bool) (below i : ℕ)
     left-highest : firstBy table below (drop i byRank) ≡ highest S v
     left-highest = sym passed ∙ rw (cycle1, cycle2, crashed, standing) (first-highest S v)
 
-    pub found-highest : (r : ℕ) → i < 3 → r ≡ rank (getD byRank i 0) → getD table (getD byRank i 0) false && ltb below r ≡ true → getD byRank i 0 ≡ highest S v
+    pub found-highest : (r : ℕ) → i < warningCount → r ≡ rank (getD byRank i 0) → getD table (getD byRank i 0) false && ltb below r ≡ true → getD byRank i 0 ≡ highest S v
     found-highest r within ranked o = sym (finds table below i r within ranked o) ∙ left-highest
 
-    pub none-highest : i ≡ 3 → 0 ≡ highest S v
+    pub none-highest : i ≡ warningCount → 0 ≡ highest S v
     unfolding firstBy
     none-highest e = rw e at left-highest

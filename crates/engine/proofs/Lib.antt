@@ -1,10 +1,10 @@
+pub mod RunsLoop
 pub mod StateTaken
 pub mod StateSeen
 pub mod Squares
 pub mod Decided
 pub mod HighestFound
 pub mod StepFits
-pub mod SampleAt
 pub mod SteadyStep
 pub mod SamplesInTurn
 pub mod Records

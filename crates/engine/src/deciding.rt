@@ -13,7 +13,13 @@ use history::Cycle;
 use history::Decision;
 use history::Notice;
 use history::View;
+use message::BY_RANK;
+use message::CANCEL;
 use message::Message;
+use message::NEW;
+use message::POST_CRASH;
+use message::UPDATE;
+use message::WARNINGS;
 use sample::Position;
 
 fn one(b: bool) -> u32
@@ -44,8 +50,7 @@ fn crash_triggers(v: View) -> bool
     (v.recent == 3) | ((0 < v.recent) & (0 < v.stationary))
 }
 
-// The warnings by falling rank.
-const BY_RANK: [u8; 3] = [3, 2, 1];
+const COUNT: usize = WARNINGS as usize;
 
 // The highest warning that overrules the standing one, 0 for none.
 fn highest(v: View) -> u8
@@ -53,17 +58,17 @@ fn highest(v: View) -> u8
     ensures { λ r. ⌜ r ≡ highest unitSettings v ⌝ }
 {
     let standing = v.standing;
-    let first = v.first;
-    let second = v.second;
+    let stoppedcycle = v.stoppedcycle;
+    let brokendowncycle = v.brokendowncycle;
     let below = standing_rank(standing);
     let triggered = [
         false,
-        cycle_triggers(first),
-        cycle_triggers(second),
+        cycle_triggers(stoppedcycle),
+        cycle_triggers(brokendowncycle),
         crash_triggers(v),
     ];
-    let mut i: usize = 0;
-    while i < 3 {
+    let mut i = 0;
+    while i < COUNT {
         let warning = BY_RANK[i];
         let at = warning as usize;
         if triggered[at] & (below < rank(warning)) {
@@ -77,7 +82,7 @@ fn highest(v: View) -> u8
 fn quality_of(v: View, warning: u8, g: u8) -> u8
     ensures { λ r. ⌜ r ≡ qualityOf v warning g ⌝ }
 {
-    if warning == 3 {
+    if warning == POST_CRASH {
         return g;
     }
     if v.expiring {
@@ -128,7 +133,7 @@ fn cancel_of(tick: u32, m: Message) -> Message
 {
     let position = m.position;
     Message {
-        kind: 3,
+        kind: CANCEL,
         warning: m.warning,
         quality: m.quality,
         roadtype: m.roadtype,
@@ -180,7 +185,7 @@ fn hazard_off(v: View, m: Message) -> bool
 {
     let x = v.sample;
     let w = x.switches_on();
-    !(m.warning == 3) & !w.hazard
+    !(m.warning == POST_CRASH) & !w.hazard
 }
 
 fn cancel_due(v: View, m: Message) -> bool
@@ -208,7 +213,7 @@ fn raise(v: View, warning: u8) -> Decision
     let standing = v.standing;
     Decision {
         cancel: cancel_standing(v.tick, standing),
-        report: Notice::Sent(report_of(1, warning, v.events + 1, v.recent, v)),
+        report: Notice::Sent(report_of(NEW, warning, v.events + 1, v.recent, v)),
     }
 }
 
@@ -231,7 +236,7 @@ fn keep(v: View, standing: Notice) -> Decision
     if update_due(v, m) {
         return Decision {
             cancel: Notice::Nothing,
-            report: Notice::Sent(report_of(2, m.warning, v.events, v.kept, v)),
+            report: Notice::Sent(report_of(UPDATE, m.warning, v.events, v.kept, v)),
         };
     }
     Decision {

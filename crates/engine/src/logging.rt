@@ -8,7 +8,10 @@ ghost use Rattle.history.specs.State.{logged, loggedNotice};
 use crate::viewing::counted_from;
 use history::Log;
 use history::Notice;
+use message::CANCEL;
 use message::Message;
+use message::NEW;
+use message::POST_CRASH;
 
 fn pick(b: bool, x: u32, y: u32) -> u32
     ensures { λ r. ⌜ r ≡ cond b x y ⌝ }
@@ -20,7 +23,7 @@ fn pick(b: bool, x: u32, y: u32) -> u32
 fn standing_after(m: Message) -> Notice
     ensures { λ r. ⌜ r ≡ cond (isCancel m) Nothing (Sent m) ⌝ }
 {
-    if m.kind == 3 {
+    if m.kind == CANCEL {
         Notice::Nothing
     } else {
         Notice::Sent(m)
@@ -31,13 +34,17 @@ fn logged(l: Log, m: Message) -> Log
     requires { ⌜ l .events ≤ 10000000 ⌝ }
     ensures { λ r. ⌜ r ≡ logged l m ⌝ }
 {
-    let is_new = m.kind == 1;
-    let from = counted_from(m.reference, l.cancelled);
+    let is_new = m.kind == NEW;
+    let from = counted_from(m.reference, l.lastcancel);
     Log {
         standing: standing_after(m),
         started: pick(is_new, m.reference, l.started),
         counted: pick(is_new, from, l.counted),
-        cancelled: pick((m.kind == 3) & (m.warning == 3), m.reference, l.cancelled),
+        lastcancel: pick(
+            (m.kind == CANCEL) & (m.warning == POST_CRASH),
+            m.reference,
+            l.lastcancel,
+        ),
         events: pick(is_new, l.events + 1, l.events),
     }
 }

@@ -5,7 +5,7 @@ ghost use Rattle.history.specs.State.{withLog, step};
 ghost use Rattle.engine.specs.Fits.{CanStep};
 use crate::deciding::decide;
 use crate::logging::logged_notice;
-use crate::taking::taken;
+use crate::taking::with_sample;
 use crate::viewing::seen;
 use history::Log;
 use history::State;
@@ -17,19 +17,15 @@ fn with_log(s: State, log: Log) -> State
 {
     let filter = s.filter;
     let runs = s.runs;
-    let first = s.first;
-    let second = s.second;
-    let absent = s.absent;
+    let stoppedcycle = s.stoppedcycle;
+    let brokendowncycle = s.brokendowncycle;
     State {
         taken: s.taken,
         filter,
-        stationary: s.stationary,
-        moving: s.moving,
         ignition: s.ignition,
         runs,
-        first,
-        second,
-        absent,
+        stoppedcycle,
+        brokendowncycle,
         log,
     }
 }
@@ -38,7 +34,7 @@ pub(crate) fn stepped(s: State, x: Sample) -> Stepped
     requires { ⌜ CanStep s x ⌝ }
     ensures { λ r. ⌜ r ≡ step unitSettings s x ⌝ }
 {
-    let t = taken(s, x);
+    let t = with_sample(s, x);
     let v = seen(s, t, x);
     let decision = decide(v);
     let before = t.log;

@@ -1,16 +1,29 @@
 // The state with one more sample, before anything is given at its tick.
 ghost use mathlib.Core.Path.{_≡_};
+ghost use mathlib.Core.Bool.{cond};
 ghost use Prim.Native.Nat.{_<_, _≤_};
 ghost use Rattle.history.specs.Rules.{rank, standingRank};
-ghost use Rattle.history.specs.State.{goOn, mark, switchedOff, runsAfter, absentAfter, conditionsAt, cycleAfter, taken};
-ghost use Rattle.engine.specs.Fits.{RunsFit, AbsentFit, CanStep};
-use crate::steady::is_still;
-use history::Absent;
+ghost use Rattle.history.specs.Ranges.{Within};
+ghost use Rattle.history.specs.History.{isStill};
+ghost use Rattle.history.specs.Runs.{factsOf, goOn, runsAfter};
+ghost use Rattle.history.specs.State.{mark, switchedOff, conditionsAt, cycleAfter, goesOn, withSample};
+ghost use Rattle.engine.specs.Fits.{CanStep};
+use filter::Filter;
+use history::BELT_OFF;
+use history::BONNET;
+use history::BOOT;
+use history::BRAKE;
 use history::Conditions;
 use history::Cycle;
+use history::DOOR;
+use history::IDLE;
+use history::IGNITION_OFF;
 use history::Notice;
-use history::Runs;
+use history::PARK;
+use history::RUNS;
 use history::State;
+use message::BROKEN_DOWN;
+use message::STOPPED;
 use sample::Sample;
 
 fn go_on(b: bool, n: u32) -> u32
@@ -26,33 +39,40 @@ fn mark(goes_on: bool, now: bool, before: bool) -> bool
     if goes_on { now | before } else { false }
 }
 
-fn runs_after(r: Runs, x: Sample) -> Runs
-    requires { ⌜ RunsFit r ⌝ }
-    ensures { λ q. ⌜ q ≡ runsAfter r x ⌝ }
+// Which of the facts whose runs are kept are true of the sample, each at the place of its run.
+fn facts_of(still: bool, x: Sample) -> [bool; RUNS]
+    ensures { λ r. ⌜ r ≡ factsOf still x ⌝ }
 {
     let w = x.switches_on();
-    Runs {
-        park: go_on(x.gear == 1, r.park),
-        idle: go_on(x.gear == 2, r.idle),
-        brake: go_on(w.brake, r.brake),
-        beltoff: go_on(!w.belt, r.beltoff),
-        ignitionoff: go_on(!w.ignition, r.ignitionoff),
-        door: go_on(w.door, r.door),
-        boot: go_on(w.boot, r.boot),
-        bonnet: go_on(w.bonnet, r.bonnet),
-    }
+    let h = x.happenings_now();
+    [
+        still,
+        !still,
+        x.gear == 1,
+        x.gear == 2,
+        w.brake,
+        !w.belt,
+        !w.ignition,
+        w.door,
+        w.boot,
+        w.bonnet,
+        !h.ecall,
+        !(h.low | h.pedestrian),
+        !h.high,
+    ]
 }
 
-fn absent_after(a: Absent, x: Sample) -> Absent
-    requires { ⌜ AbsentFit a ⌝ }
-    ensures { λ q. ⌜ q ≡ absentAfter a x ⌝ }
+fn runs_after(facts: [bool; RUNS], old: [u32; RUNS]) -> [u32; RUNS]
+    requires { ⌜ Within 10000000 old ⌝ }
+    ensures { λ r. ⌜ r ≡ runsAfter facts old ⌝ }
 {
-    let w = x.happenings_now();
-    Absent {
-        ecall: go_on(!w.ecall, a.ecall),
-        low: go_on(!(w.low | w.pedestrian), a.low),
-        high: go_on(!w.high, a.high),
+    let mut runs = old;
+    let mut i = 0;
+    while i < RUNS {
+        runs[i] = go_on(facts[i], runs[i]);
+        i += 1;
     }
+    runs
 }
 
 fn switched_off(i: u32, ticks: u32) -> bool
@@ -61,15 +81,18 @@ fn switched_off(i: u32, ticks: u32) -> bool
     (30 < ticks) & (ticks <= i)
 }
 
-pub(crate) fn conditions_at(i: u32, r: Runs) -> Conditions
+pub(crate) fn conditions_at(i: u32, r: [u32; RUNS]) -> Conditions
     ensures { λ q. ⌜ q ≡ conditionsAt i r ⌝ }
 {
     Conditions {
-        park: 30 < r.park,
-        idle: 30 < r.idle,
-        brake: 30 < r.brake,
-        belt: switched_off(i, r.beltoff),
-        expiring: switched_off(i, r.ignitionoff) | (30 < r.door) | (30 < r.boot) | (30 < r.bonnet),
+        park: 30 < r[PARK],
+        idle: 30 < r[IDLE],
+        brake: 30 < r[BRAKE],
+        belt: switched_off(i, r[BELT_OFF]),
+        expiring: switched_off(i, r[IGNITION_OFF])
+            | (30 < r[DOOR])
+            | (30 < r[BOOT])
+            | (30 < r[BONNET]),
     }
 }
 
@@ -90,12 +113,8 @@ fn cycle_after(goes_on: bool, now: Conditions, c: Cycle) -> Cycle
 pub(crate) fn rank(warning: u8) -> u8
     ensures { λ r. ⌜ r ≡ rank warning ⌝ }
 {
-    match warning {
-        1 => 1,
-        2 => 2,
-        3 => 3,
-        _ => 0,
-    }
+    let row = message::row_of(warning);
+    row.rank
 }
 
 pub(crate) fn standing_rank(n: Notice) -> u8
@@ -107,33 +126,55 @@ pub(crate) fn standing_rank(n: Notice) -> u8
     }
 }
 
-pub(crate) fn taken(s: State, x: Sample) -> State
-    requires { ⌜ CanStep s x ⌝ }
-    ensures { λ r. ⌜ r ≡ taken s x ⌝ }
+// Whether the vehicle is still, by the filter with the sample and the sample's speed.
+pub(crate) fn is_still(f: Filter, speed: u16) -> bool
+    ensures { λ r. ⌜ r ≡ isStill f speed ⌝ }
+{
+    sample::has_reading(speed) & f.at_most_8()
+}
+
+fn pick(b: bool, x: bool, y: bool) -> bool
+    ensures { λ r. ⌜ r ≡ cond b x y ⌝ }
+{
+    if b { x } else { y }
+}
+
+// Whether the cycle of the warning goes on, by still and by the rank of what stands.
+fn goes_on(warning: u8, still: bool, x: Sample, standing: u8) -> bool
+    ensures { λ r. ⌜ r ≡ goesOn warning still x standing ⌝ }
 {
     let w = x.switches_on();
-    let f0 = s.filter;
-    let f = f0.next(x.speed);
-    let still = is_still(f, x.speed);
-    let r0 = s.runs;
-    let runs = runs_after(r0, x);
+    let need = pick(
+        warning == STOPPED,
+        !w.breakdown,
+        (warning == BROKEN_DOWN) & w.breakdown,
+    );
+    still & (w.hazard & need) & (standing < rank(warning))
+}
+
+pub(crate) fn with_sample(s: State, x: Sample) -> State
+    requires { ⌜ CanStep s x ⌝ }
+    ensures { λ r. ⌜ r ≡ withSample s x ⌝ }
+{
+    let w = x.switches_on();
+    let before = s.filter;
+    let filter = before.next(x.speed);
+    let still = is_still(filter, x.speed);
+    let old = s.runs;
+    let runs = runs_after(facts_of(still, x), old);
     let now = conditions_at(s.taken, runs);
     let log = s.log;
     let n = log.standing;
     let standing = standing_rank(n);
-    let c1 = s.first;
-    let c2 = s.second;
-    let a0 = s.absent;
+    let c1 = s.stoppedcycle;
+    let c2 = s.brokendowncycle;
     State {
         taken: s.taken + 1,
-        filter: f,
-        stationary: go_on(still, s.stationary),
-        moving: go_on(!still, s.moving),
+        filter,
         ignition: w.ignition,
         runs,
-        first: cycle_after(still & (w.hazard & !w.breakdown) & (standing < 1), now, c1),
-        second: cycle_after(still & (w.hazard & w.breakdown) & (standing < 2), now, c2),
-        absent: absent_after(a0, x),
+        stoppedcycle: cycle_after(goes_on(STOPPED, still, x, standing), now, c1),
+        brokendowncycle: cycle_after(goes_on(BROKEN_DOWN, still, x, standing), now, c2),
         log,
     }
 }

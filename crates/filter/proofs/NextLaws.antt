@@ -5,19 +5,20 @@ use Prim.Native.Nat.{ℕ, _≤_}
 use native.Mathlib.Omega.{arith}
 use borrow.Author.Tests.{ne-eqb}
 use lib.Ieee.{Float}
+use Rattle.sample.specs.Sample.{noReading}
 use Rattle.filter.specs.Filter.{asF32, blend, withReading, next}
 use Rattle.filter.specs.declared.Filter.{Filter}
 use Rattle.filter.specs.declared.Filter.the-variants.{Empty, Running}
 
 -- "A missing reading keeps F."
-pub next-missing : (s : Filter) → next s 16383 ≡ s
+pub next-missing : (s : Filter) → next s noReading ≡ s
 unfolding next
 next-missing s = refl
 
 -- any other number is a reading
-pub next-reading : (s : Filter) (x : ℕ) → (x ≡ 16383 → ⊥) → next s x ≡ withReading s (asF32 x)
+pub next-reading : (s : Filter) (x : ℕ) → (x ≡ noReading → ⊥) → next s x ≡ withReading s (asF32 x)
 unfolding next
-next-reading s x h = simp (ne-eqb x 16383 h)
+next-reading s x h = simp (ne-eqb x noReading h)
 
 -- "The first reading x becomes F."
 pub next-first : (x : ℕ) → x ≤ 16382 → next Empty x ≡ Running (asF32 x)

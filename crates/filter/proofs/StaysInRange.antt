@@ -9,6 +9,7 @@ use lib.IntN.{pos}
 use lib.Dec.{T}
 use lib.Ieee.{Float, binary32, sub, mul, fits}
 use lib.Ieee.Fits.{add-fits, ofInt-fits}
+use Rattle.sample.specs.Sample.{noReading}
 use Rattle.filter.specs.Filter.{asF32, blend, quarter, next, inRange, isF32, Valid, afterReadings, Readings}
 use Rattle.filter.specs.declared.Filter.{Filter}
 use Rattle.filter.specs.declared.Filter.the-variants.{Empty, Running}
@@ -29,7 +30,7 @@ reading-valid (Running f) x h v =
     rw (next-later f x h) (measured-valid (blend f (asF32 x)) (o .size) (blend-fits f (asF32 x)) (o .units) (o .most))
 
 -- one step: the range is kept by every reading, and by a missing one
-pub next-valid : (s : Filter) (x : ℕ) → x ≤ 16383 → Valid s → Valid (next s x)
+pub next-valid : (s : Filter) (x : ℕ) → x ≤ noReading → Valid s → Valid (next s x)
 next-valid s x h v = elim (eq-or-lt-of-le h) [ inl e ↦ rw (e, next-missing) v | inr l ↦ reading-valid s x (le-of-suc-le-suc l) v ]
 
 pub empty-valid : Valid Empty

@@ -8,6 +8,7 @@ use mathlib.Core.List.{List, List·Memᴰ, foldl}
 use lib.Dec.{T, eqb}
 use lib.IntN.{pos}
 use lib.Ieee.{Float, binary32, ofBits, ofInt, add, sub, mul, le, fits}
+use Rattle.sample.specs.Sample.{noReading}
 use Rattle.filter.specs.declared.Filter.{Filter}
 use Rattle.filter.specs.declared.Filter.the-variants.{Empty, Running}
 
@@ -43,7 +44,7 @@ withReading (Running f) x = Running (blend f x)
 
 -- "A missing reading keeps F.", and "16,383 = no reading"
 unfoldable pub next : Filter → ℕ → Filter
-next s reading = cond (eqb reading 16383) s (withReading s (asF32 reading))
+next s reading = cond (eqb reading noReading) s (withReading s (asF32 reading))
 
 -- the filter after a list of readings, the first one first
 unfoldable pub afterReadings : Filter → List ℕ → Filter
@@ -51,7 +52,7 @@ afterReadings s readings = foldl next s readings
 
 -- each number is a reading or 16,383: "speed over 16,383" is refused
 unfoldable pub Readings : List ℕ → Type 0
-Readings readings = (x : ℕ) → List·Memᴰ x readings → x ≤ 16383
+Readings readings = (x : ℕ) → List·Memᴰ x readings → x ≤ noReading
 
 -- ---- what is asked of its value
 -- "F lies between its old value and x": z lies between a and b, whichever of the two is larger

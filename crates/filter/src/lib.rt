@@ -2,9 +2,7 @@
 ghost use mathlib.Core.Path.{_≡_};
 ghost use lib.Ieee.{binary32, toBits};
 ghost use Rattle.filter.specs.Filter.{asF32, blend, atMost8, inRange, Moved};
-
-// How a sample says that it has no reading of the speed.
-const NO_READING: u16 = 16383;
+use sample::NO_READING;
 
 // The bits of the value at which readings of 0 let the filter rest: twice the smallest number.
 const REST: u32 = 2;

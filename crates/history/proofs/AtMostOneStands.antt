@@ -11,10 +11,11 @@ use lib.Dec.{eqb}
 use borrow.Author.Tests.{eq-eqb, ne-eqb}
 use Rattle.sample.specs.declared.Sample.{Sample}
 use Rattle.message.specs.declared.Message.{Message}
+use Rattle.message.specs.Warnings.{new, update}
 use Rattle.history.specs.declared.Notice.{Notice}
 use Rattle.history.specs.declared.Notice.the-variants.{Nothing, Sent}
 use Rattle.history.specs.declared.View.{View}
-use Rattle.history.specs.Rules.{Settings, new, update, highest, reportOf, cancelOf, cancelStanding, cancelDue, updateDue, raise, keep, decide, noticed, givenBy}
+use Rattle.history.specs.Rules.{Settings, highest, reportOf, cancelOf, cancelStanding, cancelDue, updateDue, raise, keep, decide, noticed, givenBy}
 use Rattle.history.specs.History.{Past, isNew, messages, standingAfter, standing, events, viewOf, givenAt, tickOf, after}
 use Rattle.history.specs.Standing.{among, endsAt, BeginsAt, Stands}
 use Rattle.history.specs.TickWords.{ItsNew}

@@ -7,10 +7,11 @@ use Prim.Native.Nat.{ℕ, _+_}
 use lib.Dec.{eqb}
 use Rattle.sample.specs.declared.Sample.{Sample}
 use Rattle.message.specs.declared.Message.{Message}
+use Rattle.message.specs.Warnings.{new, update, cancel}
 use Rattle.history.specs.declared.Notice.{Notice}
 use Rattle.history.specs.declared.Notice.the-variants.{Nothing, Sent}
 use Rattle.history.specs.declared.View.{View}
-use Rattle.history.specs.Rules.{Settings, new, update, cancel, highest, reportOf, cancelOf, cancelStanding, cancelDue, updateDue, raise, keep, decide, noticed, givenBy}
+use Rattle.history.specs.Rules.{Settings, highest, reportOf, cancelOf, cancelStanding, cancelDue, updateDue, raise, keep, decide, noticed, givenBy}
 use Rattle.history.specs.History.{Past, isNew, isCancel, messages, standingAfter, standing, events, viewOf, givenAt, tickOf, after, givenDuring}
 
 -- the messages of a history, the newest first, are those given during it, in their order, turned round

@@ -4,91 +4,87 @@ use mathlib.Core.Path.{_≡_, refl, sym, ap, _∙_}
 use mathlib.Core.Logic.{inl, inr}
 use mathlib.Core.Bool.{Bool, true, false, cond, false≢true}
 use mathlib.Core.List.{List, [], _∷_, List·Memᴰ, List·Memᴰ·not-nil, List·Memᴰ·cases-cons}
-use mathlib.Core.List.List·Memᴰ.{List·Memᴰ·head, List·Memᴰ·tail}
-use Prim.Native.Nat.{ℕ, zero, suc, _≤_}
+use Prim.Native.Nat.{ℕ, zero, suc, _+_, _≤_, _<_}
 use native.Mathlib.Omega.{arith}
-use borrow.Author.Tests.{eq-eqb}
-use lib.Dec.{ltb, eqb}
+use borrow.Author.Tests.{ltb-true, eq-eqb}
+use lib.Dec.{T, ltb, eqb}
+use lib.Ieee.Fits.{and-r}
+use lib.ListN.{length, getD}
 use Rattle.wire.proofs.Tests.{both-true}
+use Rattle.message.specs.Warnings.{warningCount, byRank, rowOf}
+use Rattle.message.proofs.Table.{falling, falling-below, by-rank-falls, by-rank-has}
 use Rattle.history.specs.declared.View.{View}
-use Rattle.history.specs.Rules.{Settings, rank, byRank, standingRank, triggers, overrules, highestOf, highest}
+use Rattle.history.specs.Rules.{Settings, rank, standingRank, cycleTriggers, crashTriggers, triggers, overrules, highestOf, highest}
 use Rattle.history.specs.TickWords.{TheHighest}
 
--- only a warning triggers, and each is listed
-triggers-listed : (S : Settings) (v : View) (warning : ℕ) → triggers S v warning ≡ true → List·Memᴰ warning byRank
+-- what a table has is had by the numbers from 1 on alone, one for each entry
+had-by : (column : List Bool) (w : ℕ) → getD (false ∷ column) w false ≡ true → (1 ≤ w) × (w ≤ length column)
+had-by column zero e = absurd (false≢true e)
+had-by [] (suc w) e = absurd (false≢true e)
+had-by (b ∷ column) (suc zero) e = (omega arith, omega arith)
+had-by (b ∷ column) (suc (suc w)) e = let r = had-by column (suc w) e in (omega arith, omega (arith, r .1))
+
+-- no number but a warning triggers
+triggers-warning : (S : Settings) (v : View) (warning : ℕ) → triggers S v warning ≡ true → (1 ≤ warning) × (warning ≤ warningCount)
 unfolding triggers
-triggers-listed S v zero e = absurd (false≢true e)
-triggers-listed S v (suc zero) e = List·Memᴰ·tail (List·Memᴰ·tail (List·Memᴰ·head refl))
-triggers-listed S v (suc (suc zero)) e = List·Memᴰ·tail (List·Memᴰ·head refl)
-triggers-listed S v (suc (suc (suc zero))) e = List·Memᴰ·head refl
-triggers-listed S v (suc (suc (suc (suc n)))) e = absurd (false≢true e)
-
--- what each warning of a list has
-abbrev Each : (ℕ → Type 0) → List ℕ → Type 0
-Each P [] = Unit {0}
-Each P (w ∷ ws) = P w × Each P ws
-
-each-listed : (P : ℕ → Type 0) (ws : List ℕ) → Each P ws → (w : ℕ) → List·Memᴰ w ws → P w
-each-listed P [] a w i = absurd (List·Memᴰ·not-nil i)
-each-listed P (u ∷ ws) a w i = elim (List·Memᴰ·cases-cons i) [ inl e ↦ rw e (a .0) | inr j ↦ each-listed P ws (a .1) w j ]
-
-pub from-1-to-3 : (S : Settings) (v : View) (warning : ℕ) → triggers S v warning ≡ true → (1 ≤ warning) × (warning ≤ 3)
-from-1-to-3 S v warning t =
-    each-listed (λ w. (1 ≤ w) × (w ≤ 3)) byRank ((omega arith, omega arith), ((omega arith, omega arith), ((omega arith, omega arith), tt))) warning (triggers-listed S v warning t)
+triggers-warning S v warning e = had-by (cycleTriggers S (v .stoppedcycle) ∷ cycleTriggers S (v .brokendowncycle) ∷ crashTriggers v ∷ []) warning e
 
 -- "A warning outranking the standing one triggers"
-pub overruled : (S : Settings) (v : View) (warning : ℕ) → overrules S v warning ≡ true
-    → (triggers S v warning ≡ true) × (ltb (standingRank (v .standing)) (rank warning) ≡ true)
+pub record Overruling (S : Settings) (v : View) (warning : ℕ) : Type 0 where
+  pub triggered : triggers S v warning ≡ true
+  pub outranks : standingRank (v .standing) < rank warning
+  pub low : 1 ≤ warning
+  pub high : warning ≤ warningCount
+
+pub overruling : (S : Settings) (v : View) (warning : ℕ) → overrules S v warning ≡ true → Overruling S v warning
 unfolding overrules
-overruled S v warning o = both-true _ _ o
-
--- the numbers of the list are warnings, and no rank is above the one before it, the first not above r
-abbrev Falling : ℕ → List ℕ → Type 0
-Falling r [] = Unit {0}
-Falling r (w ∷ ws) = (1 ≤ w) × (rank w ≤ r) × Falling (rank w) ws
-
-none-above : (r : ℕ) (ws : List ℕ) → Falling r ws → (w : ℕ) → List·Memᴰ w ws → rank w ≤ r
-none-above r [] f w i = absurd (List·Memᴰ·not-nil i)
-none-above r (u ∷ ws) f w i =
-    elim (List·Memᴰ·cases-cons i) [ inl e ↦ rw e (f .1) | inr j ↦ omega (arith, f .1, none-above (rank u) ws (f .2) w j) ]
+overruling S v warning o =
+    let b = both-true (triggers S v warning) (ltb (standingRank (v .standing)) (rank warning)) o in
+    let r = triggers-warning S v warning (b .0) in
+    record { triggered = b .0; outranks = ltb-true _ _ (b .1); low = r .0; high = r .1 }
 
 module _ (S : Settings) (v : View) where
-  -- what `highestOf` finds of a list
+  -- what is found of a list of warnings
   record Found (ws : List ℕ) (h : ℕ) : Type 0 where
     is-one : (h ≡ 0 → ⊥) → overrules S v h ≡ true
     above-all : (w : ℕ) → List·Memᴰ w ws → overrules S v w ≡ true → rank w ≤ rank h
     some : (w : ℕ) → List·Memᴰ w ws → overrules S v w ≡ true → h ≡ 0 → ⊥
 
-  found : (r : ℕ) (ws : List ℕ) → Falling r ws → Found ws (highestOf S v ws)
-  unfolding highestOf
-  found r [] f =
-      record { is-one = λ z. absurd (z refl); above-all = λ w i o. absurd (List·Memᴰ·not-nil i); some = λ w i o z. List·Memᴰ·not-nil i }
-  found r (u ∷ ws) f = go (overrules S v u) refl (found (rank u) ws (f .2))
+  found : (r : ℕ) (ws : List ℕ) → T (falling r ws) → Found ws (highestOf S v ws)
+  unfolding highestOf rank
+  found r [] f = record {
+    is-one = λ z. absurd (z refl);
+    above-all = λ w i o. absurd (List·Memᴰ·not-nil i);
+    some = λ w i o z. List·Memᴰ·not-nil i;
+  }
+  found r (u ∷ ws) f = go (overrules S v u) refl (found (rank u) ws lower)
     where
+      lower : T (falling (rank u) ws)
+      lower = and-r (ltb (rowOf u .rank) r) (falling (rowOf u .rank) ws) f
+
       go : (b : Bool) → overrules S v u ≡ b → Found ws (highestOf S v ws) → Found (u ∷ ws) (cond b u (highestOf S v ws))
-      go true e ih =
-          record {
-            is-one = λ z. e;
-            above-all = λ w i o. elim (List·Memᴰ·cases-cons i) [ inl p ↦ rw p (omega arith) | inr j ↦ none-above (rank u) ws (f .2) w j ];
-            some = λ w i o z. omega (arith, f .0);
-          }
-      go false e ih =
+      go true e rest = record {
+        is-one = λ z. e;
+        above-all = λ w i o. elim (List·Memᴰ·cases-cons i) [ inl p ↦ rw p (omega arith) | inr j ↦ omega (arith, falling-below (rank u) ws lower w j) ];
+        some = λ w i o z. omega (arith, overruling S v u e .low);
+      }
+      go false e rest =
           let other : (w : ℕ) → List·Memᴰ w (u ∷ ws) → overrules S v w ≡ true → List·Memᴰ w ws =
           λ w i o. elim (List·Memᴰ·cases-cons i) [ inl p ↦ absurd (false≢true (sym e ∙ ap (overrules S v) (sym p) ∙ o)) | inr j ↦ j ] in
           record {
-            is-one = ih .is-one;
-            above-all = λ w i o. ih .above-all w (other w i o) o;
-            some = λ w i o. ih .some w (other w i o) o;
+            is-one = rest .is-one;
+            above-all = λ w i o. rest .above-all w (other w i o) o;
+            some = λ w i o. rest .some w (other w i o) o;
           }
 
   -- "New of the highest"
   pub highest-in-words : TheHighest S v (highest S v)
-  unfolding highest rank
+  unfolding highest
   highest-in-words =
-      let f = found 3 byRank (omega arith, omega arith, (omega arith, omega arith, (omega arith, omega arith, tt))) in
-      let among : (w : ℕ) → overrules S v w ≡ true → List·Memᴰ w byRank = λ w o. triggers-listed S v w (overruled S v w o .0) in
-      record { is-one = f .is-one; above-all = λ w o. f .above-all w (among w o) o; some = λ w o. f .some w (among w o) o }
+      let f = found (warningCount + 1) byRank by-rank-falls in
+      let listed : (w : ℕ) → overrules S v w ≡ true → List·Memᴰ w byRank = λ w o. let r = overruling S v w o in by-rank-has w (r .low) (r .high) in
+      record { is-one = f .is-one; above-all = λ w o. f .above-all w (listed w o) o; some = λ w o. f .some w (listed w o) o }
 
-  -- so rule 1 raises a warning that triggers and outranks the standing one
-  pub highest-overrules : eqb (highest S v) 0 ≡ false → overrules S v (highest S v) ≡ true
-  highest-overrules q = highest-in-words .is-one (λ z. false≢true (sym q ∙ eq-eqb (highest S v) 0 z))
+  -- so what rule 1 raises overrules
+  pub highest-overrules : eqb (highest S v) 0 ≡ false → Overruling S v (highest S v)
+  highest-overrules q = overruling S v (highest S v) (highest-in-words .is-one (λ z. false≢true (sym q ∙ eq-eqb (highest S v) 0 z)))

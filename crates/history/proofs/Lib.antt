@@ -3,8 +3,10 @@ pub mod GivenInOrder
 pub mod AtMostOneStands
 pub mod StandsByMessages
 pub mod OneCancelBetweenNews
+pub mod StepsJoined
 pub mod StateMade
 pub mod InRange
+pub mod RunsGoOn
 pub mod ReportAdmitted
 pub mod Reached
 pub mod MessagesAdmitted

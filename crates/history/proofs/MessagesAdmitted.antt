@@ -5,7 +5,7 @@ use mathlib.Core.Bool.{Bool, true, false, cond}
 use mathlib.Core.List.{List, [], _∷_, _++_}
 use Prim.Native.Nat.{ℕ, _+_, _≤_, _<_}
 use native.Mathlib.Omega.{arith}
-use borrow.Author.Tests.{ltb-true, ne-eqb}
+use borrow.Author.Tests.{ne-eqb}
 use lib.Dec.{T, eqb}
 use Rattle.wire.specs.Outcome.{firstFault}
 use Rattle.wire.proofs.Tests.{true-holds}
@@ -15,17 +15,18 @@ use Rattle.sample.proofs.AcceptedFields.{Fields, fields-clear}
 use Rattle.filter.specs.Filter.{Valid}
 use Rattle.filter.proofs.StaysInRange.{next-valid}
 use Rattle.message.specs.declared.Message.{Message}
+use Rattle.message.specs.Warnings.{new, update, warningCount}
 use Rattle.message.specs.Message.{admits}
 use Rattle.message.proofs.Admitted.{Admitted, admits-it}
 use Rattle.history.specs.declared.Notice.{Notice}
 use Rattle.history.specs.declared.Notice.the-variants.{Nothing, Sent}
 use Rattle.history.specs.declared.View.{View}
 use Rattle.history.specs.declared.Decision.{Decision}
-use Rattle.history.specs.Rules.{Settings, new, update, rank, standingRank, triggers, overrules, highest, reportOf, cancelOf, cancelStanding, cancelDue, updateDue, silent, raise, keep, decide, noticed, givenBy}
+use Rattle.history.specs.Rules.{Settings, rank, standingRank, triggers, highest, reportOf, cancelOf, cancelStanding, cancelDue, updateDue, silent, raise, keep, decide, noticed, givenBy}
 use Rattle.history.specs.History.{Past, present, size, filterAfter, messages, standingAfter, standing, events, started, lastCancel, countedFrom, counted, viewOf, givenAt, tickOf, after, givenDuring}
 use Rattle.history.proofs.GivenInOrder.{either}
+use Rattle.history.proofs.HighestInWords.{Overruling, highest-overrules}
 use Rattle.history.proofs.Reached.{tickWith, IfSent, LastReport, Reached, reached-none, quality-at-most-3, still-counted, given-aside, crash-counted}
-use Rattle.history.proofs.HighestInWords.{from-1-to-3, overruled, highest-overrules}
 use Rattle.history.proofs.ReportAdmitted.{report-admitted, cancel-admitted}
 use Rattle.history.proofs.TickNumbers.{size-after}
 
@@ -75,7 +76,7 @@ module _ (x : Sample) (past : Past) (r : Reached past) (f : Fields x) (few : siz
       filter-valid = filter-next [];
       started-by-now = omega arith;
       counted-by-now = omega arith;
-      cancelled-by-now = omega arith;
+      last-cancel-by-now = omega arith;
       events-by-now = omega arith;
       last-report = last-report-stays (standing past) (r .last-report);
     },
@@ -87,7 +88,7 @@ module _ (x : Sample) (past : Past) (r : Reached past) (f : Fields x) (few : siz
 
     cancel-by-now : lastCancel (cancelOf (size past) m ∷ ms) ≤ size past
     unfolding lastCancel cancelOf
-    cancel-by-now = either (λ (k : ℕ). k ≤ size past) (eqb (m .warning) 3) (omega arith) (r .cancelled-by-now)
+    cancel-by-now = either (λ (k : ℕ). k ≤ size past) (eqb (m .warning) 3) (omega arith) (r .last-cancel-by-now)
 
     -- "2. The standing one is cancelled"
     cancel-fits : Fits (record { cancel = cancelStanding (size past) (Sent m); report = Nothing })
@@ -98,7 +99,7 @@ module _ (x : Sample) (past : Past) (r : Reached past) (f : Fields x) (few : siz
         filter-valid = filter-next _;
         started-by-now = omega arith;
         counted-by-now = omega arith;
-        cancelled-by-now = omega (arith, cancel-by-now);
+        last-cancel-by-now = omega (arith, cancel-by-now);
         events-by-now = omega arith;
         last-report = tt;
       },
@@ -126,7 +127,7 @@ module _ (x : Sample) (past : Past) (r : Reached past) (f : Fields x) (few : siz
         filter-valid = filter-next _;
         started-by-now = omega arith;
         counted-by-now = omega arith;
-        cancelled-by-now = omega arith;
+        last-cancel-by-now = omega arith;
         events-by-now = omega arith;
         last-report = record {
           admitted = update-admitted;
@@ -143,7 +144,7 @@ module _ (x : Sample) (past : Past) (r : Reached past) (f : Fields x) (few : siz
   keep-fits Nothing s = silent-fits
   keep-fits (Sent m) s = either Fits (cancelDue v m) (cancel-fits m s) (either Fits (updateDue v m) (update-fits m s) silent-fits)
 
-  module _ (warning : ℕ) (low : 1 ≤ warning) (high : warning ≤ 3) (happened : warning ≡ 3 → 1 ≤ v .recent) where
+  module _ (warning : ℕ) (low : 1 ≤ warning) (high : warning ≤ warningCount) (happened : warning ≡ 3 → 1 ≤ v .recent) where
     abbrev aNew : Message
     aNew = reportOf new warning (events ms + 1) (v .recent) v
 
@@ -161,11 +162,11 @@ module _ (x : Sample) (past : Past) (r : Reached past) (f : Fields x) (few : siz
         → events before ≡ events ms → lastCancel before ≤ size past → (warning ≡ 3 → lastCancel before ≡ lastCancel ms)
         → Reached (tickWith x given ∷ past)
     unfolding size reportOf started counted countedFrom lastCancel events viewOf
-    new-reached given before e stands count cancelled same = record {
+    new-reached given before e stands count lastcancel same = record {
       filter-valid = filter-next given;
       started-by-now = rw e (omega arith);
       counted-by-now = rw e (omega arith);
-      cancelled-by-now = rw e (omega arith);
+      last-cancel-by-now = rw e (omega arith);
       events-by-now = rw e (omega arith);
       last-report = rw stands (record {
         admitted = new-admitted;
@@ -180,19 +181,17 @@ module _ (x : Sample) (past : Past) (r : Reached past) (f : Fields x) (few : siz
     raise-fits : (n : Notice) → IfSent (LastReport past) n → standingRank n < rank warning
         → Fits (record { cancel = cancelStanding (size past) n; report = Sent aNew })
     unfolding givenBy noticed messages standing standingAfter standingRank cancelStanding cancelOf reportOf lastCancel events
-    raise-fits Nothing s outranked = ((admits-it _ new-admitted, tt), new-reached _ ms refl refl refl (r .cancelled-by-now) (λ q. refl))
+    raise-fits Nothing s outranked = ((admits-it _ new-admitted, tt), new-reached _ ms refl refl refl (r .last-cancel-by-now) (λ q. refl))
     raise-fits (Sent m) s outranked =
         let not-3 : warning ≡ 3 → m .warning ≡ 3 → ⊥ = λ q e. let z : rank (m .warning) ≡ rank warning = cc in omega arith in
         ((cancel-passes m s, (admits-it _ new-admitted, tt)), new-reached _ (cancelOf (size past) m ∷ ms) refl refl refl (cancel-by-now m s) (λ q. rw (ne-eqb (m .warning) 3 (not-3 q))))
 
   -- "A warning outranking the standing one triggers (with none standing, any)"
-  overrule-fits : (S : Settings) (warning : ℕ) → overrules S v warning ≡ true → Fits (raise v warning)
+  overrule-fits : (S : Settings) (warning : ℕ) → Overruling S v warning → Fits (raise v warning)
   unfolding raise viewOf triggers
-  overrule-fits S warning e =
-      let b = overruled S v warning e in
-      let range = from-1-to-3 S v warning (b .0) in
-      let happened : warning ≡ 3 → 1 ≤ v .recent = λ q. crash-counted v (true-holds _ (rw q at (b .0))) in
-      raise-fits warning (range .0) (range .1) happened (standing past) (r .last-report) (ltb-true _ _ (b .1))
+  overrule-fits S warning o =
+      let happened : warning ≡ 3 → 1 ≤ v .recent = λ q. crash-counted v (true-holds _ (rw q at (o .triggered))) in
+      raise-fits warning (o .low) (o .high) happened (standing past) (r .last-report) (o .outranks)
 
   -- "At tick i, first that applies"
   decision-fits : (S : Settings) → Fits (decide S v)

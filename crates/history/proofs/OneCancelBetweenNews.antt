@@ -8,7 +8,8 @@ use native.Mathlib.Omega.{arith}
 use borrow.Author.Tests.{eqb-true}
 use Rattle.sample.specs.declared.Sample.{Sample}
 use Rattle.message.specs.declared.Message.{Message}
-use Rattle.history.specs.Rules.{Settings, new}
+use Rattle.message.specs.Warnings.{new}
+use Rattle.history.specs.Rules.{Settings}
 use Rattle.history.specs.History.{isNew, messages, events, givenDuring}
 use Rattle.history.specs.Standing.{cancels}
 use Rattle.history.proofs.GivenInOrder.{due, ComesNext, InOrder, in-order-before, messages-after, given-in-order}

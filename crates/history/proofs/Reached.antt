@@ -40,7 +40,7 @@ pub record Reached (past : Past) : Type 0 where
   pub filter-valid : Valid (filterAfter past)
   pub started-by-now : started (messages past) ≤ size past
   pub counted-by-now : counted (messages past) ≤ size past
-  pub cancelled-by-now : lastCancel (messages past) ≤ size past
+  pub last-cancel-by-now : lastCancel (messages past) ≤ size past
   pub events-by-now : events (messages past) ≤ size past
   pub last-report : IfSent (LastReport past) (standing past)
 
@@ -51,7 +51,7 @@ reached-none = record {
   filter-valid = empty-valid;
   started-by-now = omega arith;
   counted-by-now = omega arith;
-  cancelled-by-now = omega arith;
+  last-cancel-by-now = omega arith;
   events-by-now = omega arith;
   last-report = tt;
 }

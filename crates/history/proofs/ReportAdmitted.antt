@@ -5,14 +5,25 @@ use mathlib.Core.Bool.{Bool, true, false, cond, or-true}
 use Prim.Native.Nat.{ℕ, _-_, _/_, _≤_}
 use native.Mathlib.Omega.{arith}
 use borrow.Author.Tests.{eq-eqb, eqb-true}
-use lib.Dec.{ltb, eqb}
+use lib.Dec.{ltb, leb, eqb, leb→le}
 use Rattle.sample.specs.Sample.{switchesOf}
 use Rattle.sample.proofs.AcceptedFields.{Fields}
 use Rattle.message.specs.declared.Message.{Message}
+use Rattle.message.specs.Warnings.{update, cancel, warningCount, rowOf}
+use Rattle.message.proofs.Table.{each-passes}
 use Rattle.message.proofs.Admitted.{Admitted}
 use Rattle.message.proofs.DerivedAdmitted.{road-type-admitted, validity-admitted}
 use Rattle.history.specs.declared.View.{View}
 use Rattle.history.specs.Rules.{qualityOf, stationarySince, reportOf, cancelOf}
+
+-- 14 admits every kind and every quality of each warning
+kinds-admitted : (warning : ℕ) → 1 ≤ warning → warning ≤ warningCount → cancel ≤ rowOf warning .kinds
+unfolding rowOf
+kinds-admitted warning low high = leb→le _ _ (each-passes (λ w. leb cancel (rowOf w .kinds)) tt warning low high)
+
+qualities-admitted : (warning : ℕ) → 1 ≤ warning → warning ≤ warningCount → 3 ≤ rowOf warning .qualities
+unfolding rowOf
+qualities-admitted warning low high = leb→le _ _ (each-passes (λ w. leb 3 (rowOf w .qualities)) tt warning low high)
 
 -- "Quality for 1 and 2: 3 .., else 2 .., else 1. For 3: the highest of .." the happenings' g
 quality-from-1-to-3 : (v : View) (warning g : ℕ) → (warning ≡ 3 → 1 ≤ g) → g ≤ 3
@@ -38,18 +49,18 @@ since-at-most-3 ticks = go (ltb ((ticks - 1) / 600) 1) (ltb ((ticks - 1) / 600) 
     go false false false = omega arith
 
 -- "New and Update have detection = reference = now"
-pub report-admitted : (kind warning event g : ℕ) (v : View) → 1 ≤ kind → kind ≤ 3 → 1 ≤ warning → warning ≤ 3 → 1 ≤ event → event ≤ 10000000
+pub report-admitted : (kind warning event g : ℕ) (v : View) → 1 ≤ kind → kind ≤ update → 1 ≤ warning → warning ≤ warningCount → 1 ≤ event → event ≤ 10000000
     → (warning ≡ 3 → 1 ≤ g) → g ≤ 3 → v .tick ≤ 9999999 → Fields (v .sample) → Admitted (reportOf kind warning event g v)
 unfolding reportOf
-report-admitted kind warning event g v k₁ k₃ w₁ w₃ e₁ e₂ low high now x =
+report-admitted kind warning event g v k₁ k₂ w₁ w₂ e₁ e₂ low high now x =
     let q = quality-from-1-to-3 v warning g low high in
     record {
       kind-low = k₁;
-      kind-high = k₃;
+      kind-high = omega (arith, kinds-admitted warning w₁ w₂);
       warning-low = w₁;
-      warning-high = w₃;
+      warning-high = w₂;
       quality-low = q .0;
-      quality-high = q .1;
+      quality-high = omega (arith, q .1, qualities-admitted warning w₁ w₂);
       roadtype = road-type-admitted (v .sample .road);
       since = since-at-most-3 (v .stationary);
       event-low = e₁;
@@ -69,7 +80,7 @@ cancel-admitted tick m a earlier now =
     let d = a .detection in
     record {
       kind-low = omega arith;
-      kind-high = omega arith;
+      kind-high = kinds-admitted (m .warning) (a .warning-low) (a .warning-high);
       warning-low = a .warning-low;
       warning-high = a .warning-high;
       quality-low = a .quality-low;

@@ -17,45 +17,34 @@ use Rattle.history.specs.declared.Log.{Log}
 use Rattle.history.specs.declared.State.{State}
 use Rattle.history.specs.declared.Decision.{Decision}
 use Rattle.history.specs.Rules.{Settings, decide, noticed, givenBy}
-use Rattle.history.specs.History.{Past, Fact, present, never, size, run, during, someFrom, held, offHeld, filterAfter, stationary, parked, idling, braked, belted, ignited, doorOpen, bootOpen, bonnetOpen, conditionA, conditionB, conditionC, conditionD, oneOfAtoD, oneOfEtoH, wasIgnited, messages, standingAfter, standing, events, started, lastCancel, countedFrom, counted, ready, cycleOf, ecallPressed, lowSeverity, highSeverity, highestQuality, viewOf, givenAt, tickOf, after, givenDuring}
-use Rattle.history.specs.State.{fresh, runsAfter, absentAfter, conditionsAt, cycleAfter, taken, qualityFrom, seen, logged, loggedNotice, withLog, step, stateAfter, stepsGive}
+use Rattle.history.specs.History.{Past, Fact, present, never, size, run, during, someFrom, held, offHeld, filterAfter, stationary, conditionA, conditionB, conditionC, conditionD, oneOfAtoD, oneOfEtoH, wasIgnited, messages, standingAfter, standing, events, started, lastCancel, countedFrom, counted, ready, cycleOf, ecallPressed, lowSeverity, highSeverity, highestQuality, viewOf, givenAt, tickOf, after, givenDuring}
+use Rattle.history.specs.Runs.{facts, factsOf, runsAfter, runsOf}
+use Rattle.history.specs.State.{fresh, conditionsAt, cycleAfter, withSample, qualityFrom, seen, logged, loggedNotice, withLog, step, stateAfter, stepsGive}
 
 -- the log where n stands, of the messages, the newest first
 unfoldable pub logOf : Notice → List Message → Log
-logOf n ms = record { standing = n; started = started ms; counted = counted ms; cancelled = lastCancel ms; events = events ms }
+logOf n ms = record { standing = n; started = started ms; counted = counted ms; lastcancel = lastCancel ms; events = events ms }
 
 -- the state that a history leaves
 unfoldable pub stateOf : Past → State
 stateOf h = record {
   taken = size h;
   filter = filterAfter h;
-  stationary = run stationary h;
-  moving = run (never stationary) h;
   ignition = wasIgnited h;
-  runs = record {
-    park = run parked h;
-    idle = run idling h;
-    brake = run braked h;
-    beltoff = run (never belted) h;
-    ignitionoff = run (never ignited) h;
-    door = run doorOpen h;
-    boot = run bootOpen h;
-    bonnet = run bonnetOpen h;
-  };
-  first = cycleOf 1 h;
-  second = cycleOf 2 h;
-  absent = record { ecall = run (never ecallPressed) h; low = run (never lowSeverity) h; high = run (never highSeverity) h };
+  runs = runsOf h;
+  stoppedcycle = cycleOf 1 h;
+  brokendowncycle = cycleOf 2 h;
   log = logOf (standing h) (messages h);
 }
 
 -- a fresh state is that of no history
 pub fresh-matches : fresh ≡ stateOf []
-unfolding fresh size stateOf logOf cycleOf run during filterAfter wasIgnited messages standing started counted lastCancel events
+unfolding fresh size stateOf runsOf facts logOf cycleOf run during filterAfter wasIgnited messages standing started counted lastCancel events
 fresh-matches = refl
 
 -- the sample is taken
-taken-matches : (x : Sample) (past : Past) → taken (stateOf past) x ≡ stateOf (present x ∷ past)
-unfolding taken runsAfter conditionsAt absentAfter cycleAfter size stateOf logOf cycleOf run during filterAfter stationary held offHeld conditionA conditionB conditionC conditionD oneOfEtoH ready wasIgnited messages standing standingAfter
+taken-matches : (x : Sample) (past : Past) → withSample (stateOf past) x ≡ stateOf (present x ∷ past)
+unfolding withSample factsOf runsAfter conditionsAt cycleAfter size stateOf runsOf facts logOf cycleOf run during filterAfter stationary held offHeld conditionA conditionB conditionC conditionD oneOfEtoH ready wasIgnited messages standing standingAfter
 taken-matches x past = refl
 
 -- the messages are logged
@@ -77,7 +66,7 @@ both-logged a b n ms = rw (logged-matches a n ms) (logged-matches b _ _) ∙ joi
 given-matches : (x : Sample) (d : Decision) (past : Past)
     → withLog (stateOf (present x ∷ past)) (loggedNotice (loggedNotice (stateOf (present x ∷ past) .log) (d .cancel)) (d .report))
     ≡ stateOf (record { sample = x; given = givenBy d } ∷ past)
-unfolding withLog givenBy stateOf size filterAfter run during cycleOf stationary held offHeld conditionA conditionB conditionC conditionD oneOfEtoH ready wasIgnited messages standing standingAfter
+unfolding withLog givenBy stateOf runsOf facts size filterAfter run during cycleOf stationary held offHeld conditionA conditionB conditionC conditionD oneOfEtoH ready wasIgnited messages standing standingAfter
 given-matches x d past = rw (both-logged (d .cancel) (d .report) (standing past) (messages past))
 
 -- ---- a happening from tick j on, by the run of ticks without one
@@ -99,14 +88,14 @@ some-from-run j p [] = sym (le-ltb (j + 0) 0 (omega arith))
 some-from-run j p (t ∷ past) =
     rw (some-from-run j p past) (some-from-step (p t past) (leb j (size past)) j (size past) (run (never p) past) refl)
 
-quality-matches : (j : ℕ) (h : Past) → highestQuality j h ≡ qualityFrom j (size h) (stateOf h .absent)
-unfolding highestQuality qualityFrom stateOf
+quality-matches : (j : ℕ) (h : Past) → highestQuality j h ≡ qualityFrom j (size h) (runsOf h)
+unfolding highestQuality qualityFrom runsOf facts
 quality-matches j h = rw (some-from-run j highSeverity h, some-from-run j lowSeverity h, some-from-run j ecallPressed h)
 
 -- ---- both readings look at the same
 
 view-matches : (x : Sample) (past : Past) → seen (stateOf past) (stateOf (present x ∷ past)) x ≡ viewOf x past
-unfolding seen conditionsAt viewOf stateOf logOf countedFrom conditionA conditionB conditionC conditionD oneOfAtoD oneOfEtoH held offHeld wasIgnited
+unfolding seen conditionsAt viewOf stateOf runsOf facts logOf countedFrom conditionA conditionB conditionC conditionD oneOfAtoD oneOfEtoH held offHeld wasIgnited
 view-matches x past =
     rw (quality-matches (countedFrom (size past) (messages past)) (present x ∷ past), quality-matches (counted (messages past)) (present x ∷ past))
 

@@ -4,6 +4,7 @@ use mathlib.Core.Path.{_≡_}
 use mathlib.Core.List.{List, [], _∷_}
 use Prim.Native.Nat.{ℕ, _+_}
 use lib.IntN.{pos}
+use Rattle.sample.specs.Sample.{noReading}
 use Rattle.message.specs.declared.Message.{Message}
 use Rattle.history.specs.BenchStops.{Change, hazard, ignition, brake, door, ecall, highSeverity, park, forward, withSpeed, withGear, withHappening, switchOn, switchOff, atAlone, from, upTo, Line, line, N, U, C, messagesUpTo, linesUpTo}
 
@@ -36,10 +37,6 @@ idle = 2
 
 abbrev pub reverse : ℕ
 reverse = 4
-
--- "16,383 = no reading"
-abbrev pub noReading : ℕ
-noReading = 16383
 
 unfoldable pub withPlace : ℕ → ℕ → ℕ → ℕ → Change
 withPlace road heading east north x =

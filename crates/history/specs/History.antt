@@ -5,16 +5,17 @@ use mathlib.Core.Bool.{Bool, false, not, _&&_, _||_, cond}
 use mathlib.Core.List.{List, [], _∷_, _++_, reverseAux}
 use lib.Dec.{leb, ltb, eqb}
 use Rattle.sample.specs.declared.Sample.{Sample}
-use Rattle.sample.specs.Sample.{switchesOf, happeningsOf}
+use Rattle.sample.specs.Sample.{switchesOf, happeningsOf, hasReading}
 use Rattle.filter.specs.declared.Filter.{Filter}
 use Rattle.filter.specs.declared.Filter.the-variants.{Empty}
 use Rattle.filter.specs.Filter.{next, atMost8}
 use Rattle.message.specs.declared.Message.{Message}
+use Rattle.message.specs.Warnings.{new, cancel, stopped, brokenDown, postCrash}
 use Rattle.history.specs.declared.Notice.{Notice}
 use Rattle.history.specs.declared.Notice.the-variants.{Nothing, Sent}
 use Rattle.history.specs.declared.Cycle.{Cycle}
 use Rattle.history.specs.declared.View.{View}
-use Rattle.history.specs.Rules.{Settings, new, cancel, rank, standingRank, decide, givenBy}
+use Rattle.history.specs.Rules.{Settings, rank, standingRank, decide, givenBy}
 
 -- a tick that has passed: its sample, and the messages given at it in their order
 pub record Tick : Type 0 where
@@ -68,18 +69,17 @@ offHeld d p t past = ltb d (run (never p) (t ∷ past)) && leb (run (never p) (t
 
 -- ---- standing still
 
--- "16,383 = no reading"
-unfoldable pub hasReading : Sample → Bool
-hasReading x = not (eqb (x .speed) 16383)
-
 -- the speed filter after all ticks
 unfoldable pub filterAfter : Past → Filter
 filterAfter [] = Empty
 filterAfter (t ∷ past) = next (filterAfter past) (t .sample .speed)
 
--- "Still: the sample has a reading and F is at most 8"
+-- "Still: the sample has a reading and F is at most 8", by the filter with the sample and the sample's speed
+unfoldable pub isStill : Filter → ℕ → Bool
+isStill f speed = hasReading speed && atMost8 f
+
 unfoldable pub stationary : Fact
-stationary t past = hasReading (t .sample) && atMost8 (filterAfter (t ∷ past))
+stationary t past = isStill (filterAfter (t ∷ past)) (t .sample .speed)
 
 -- ---- the conditions
 
@@ -169,7 +169,7 @@ started (m ∷ ms) = cond (isNew m) (m .reference) (started ms)
 -- "the tick of its own last Cancel", of warning 3; 0 where there was none
 unfoldable pub lastCancel : List Message → ℕ
 lastCancel [] = 0
-lastCancel (m ∷ ms) = cond (isCancel m && eqb (m .warning) 3) (m .reference) (lastCancel ms)
+lastCancel (m ∷ ms) = cond (isCancel m && eqb (m .warning) postCrash) (m .reference) (lastCancel ms)
 
 -- "the largest of 0, i-150 and the tick of its own last Cancel"
 unfoldable pub countedFrom : ℕ → List Message → ℕ
@@ -185,7 +185,7 @@ counted (m ∷ ms) = cond (isNew m) (countedFrom (m .reference) ms) (counted ms)
 -- "Warnings 1 and 2 need still and hazard lights; 1 also no breakdown message, 2 also the message."
 unfoldable pub precondition : ℕ → Sample → Bool
 precondition warning x =
-    switchesOf x .hazard && cond (eqb warning 1) (not (switchesOf x .breakdown)) (eqb warning 2 && switchesOf x .breakdown)
+    switchesOf x .hazard && cond (eqb warning stopped) (not (switchesOf x .breakdown)) (eqb warning brokenDown && switchesOf x .breakdown)
 
 -- "the need is met and no warning of equal or higher rank stood after the tick before"
 unfoldable pub ready : ℕ → Fact
@@ -236,8 +236,8 @@ viewOf x past =
       switchedoff = not (switchesOf x .ignition) && wasIgnited past;
       shortening = oneOfAtoD (present x) past;
       expiring = oneOfEtoH (present x) past;
-      first = cycleOf 1 h;
-      second = cycleOf 2 h;
+      stoppedcycle = cycleOf stopped h;
+      brokendowncycle = cycleOf brokenDown h;
       recent = highestQuality (countedFrom (size past) ms) h;
       kept = highestQuality (counted ms) h;
     }

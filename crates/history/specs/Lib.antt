@@ -1,5 +1,6 @@
 pub mod Rules
 pub mod History
+pub mod Runs
 pub mod State
 pub mod Ranges
 pub mod Standing

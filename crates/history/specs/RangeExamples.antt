@@ -1,11 +1,11 @@
 -- The ranges of refusal 21 by examples, as docs/DECISIONS.md lists them: each number as large as it may be, and one more.
 -- Assumes nothing.
-use Prim.Native.Nat.{ℕ}
+use Prim.Native.Nat.{ℕ, _+_}
 use mathlib.Core.Path.{_≡_}
 use mathlib.Core.Bool.{Bool, true, false}
 use mathlib.Core.List.{List, [], _∷_, map}
 use lib.IntN.{pos}
-use lib.ListN.{getD, set, replicate}
+use lib.ListN.{getD, set, drop, replicate}
 use Rattle.sample.specs.Examples.{numbersFrom}
 use Rattle.filter.specs.declared.Filter.the-variants.{Empty}
 use Rattle.message.specs.Examples.{message}
@@ -13,6 +13,7 @@ use Rattle.history.specs.declared.Notice.{Notice}
 use Rattle.history.specs.declared.Notice.the-variants.{Nothing, Sent}
 use Rattle.history.specs.declared.Cycle.{Cycle}
 use Rattle.history.specs.declared.State.{State}
+use Rattle.history.specs.Runs.{runCount}
 use Rattle.history.specs.Ranges.{stateInRange}
 
 -- a cycle of this many ticks, in which no condition was fulfilled
@@ -24,34 +25,22 @@ unfoldable pub stateWith : ℕ → List ℕ → Notice → State
 stateWith n numbers standing = record {
   taken = n;
   filter = Empty;
-  stationary = getD numbers 0 0;
-  moving = getD numbers 1 0;
   ignition = false;
-  runs = record {
-    park = getD numbers 2 0;
-    idle = getD numbers 3 0;
-    brake = getD numbers 4 0;
-    beltoff = getD numbers 5 0;
-    ignitionoff = getD numbers 6 0;
-    door = getD numbers 7 0;
-    boot = getD numbers 8 0;
-    bonnet = getD numbers 9 0;
-  };
-  first = cycleOfTicks (getD numbers 10 0);
-  second = cycleOfTicks (getD numbers 11 0);
-  absent = record { ecall = getD numbers 12 0; low = getD numbers 13 0; high = getD numbers 14 0 };
+  runs = drop 6 numbers;
+  stoppedcycle = cycleOfTicks (getD numbers 0 0);
+  brokendowncycle = cycleOfTicks (getD numbers 1 0);
   log = record {
     standing = standing;
-    started = getD numbers 15 0;
-    counted = getD numbers 16 0;
-    cancelled = getD numbers 17 0;
-    events = getD numbers 18 0;
+    started = getD numbers 2 0;
+    counted = getD numbers 3 0;
+    lastcancel = getD numbers 4 0;
+    events = getD numbers 5 0;
   };
 }
 
 -- the numbers of a state that has taken seven samples, each as large as it may be
 abbrev pub sevens : List ℕ
-sevens = replicate 19 7
+sevens = replicate (6 + runCount) 7
 
 -- whether the state is in range with the standing warning's last message of this kind, quality and reference tick
 unfoldable pub inRangeWith : ℕ → ℕ → ℕ → Bool
@@ -63,7 +52,7 @@ pub record RangeExamples : Type 0 where
   pub taken : map (λ n. stateInRange (stateWith n [] Nothing)) (0 ∷ 10000000 ∷ 10000001 ∷ []) ≡ true ∷ true ∷ false ∷ []
   -- each count and tick at most the samples taken: none above, and each of them one above
   pub none-above : stateInRange (stateWith 7 sevens Nothing) ≡ true
-  pub each-above : map (λ p. stateInRange (stateWith 7 (set sevens p 8) Nothing)) (numbersFrom 0 19) ≡ replicate 19 false
+  pub each-above : map (λ p. stateInRange (stateWith 7 (set sevens p 8) Nothing)) (numbersFrom 0 (6 + runCount)) ≡ replicate (6 + runCount) false
   -- the standing warning's message: a New or an Update that 14 admits, and no Cancel, with a reference tick below the samples taken
   pub kinds : map (λ kind. inRangeWith kind 3 6) (1 ∷ 2 ∷ 3 ∷ []) ≡ true ∷ true ∷ false ∷ []
   pub admitted : map (λ quality. inRangeWith 1 quality 6) (0 ∷ 1 ∷ 3 ∷ 4 ∷ []) ≡ false ∷ true ∷ true ∷ false ∷ []

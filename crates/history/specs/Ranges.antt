@@ -1,10 +1,10 @@
 -- The ranges of refusal 21, as docs/DECISIONS.md lists them.
 -- Assumes nothing.
-use Prim.Native.Nat.{ℕ}
+use Prim.Native.Nat.{ℕ, suc, _≤_}
 use mathlib.Core.Bool.{Bool, true, not, _&&_}
 use mathlib.Core.List.{List, [], _∷_}
 use lib.Dec.{leb, ltb}
-use Rattle.wire.specs.Tests.{allHold}
+use lib.ListN.{getD}
 use Rattle.filter.specs.Filter.{inRange}
 use Rattle.message.specs.Message.{admits}
 use Rattle.history.specs.declared.Notice.{Notice}
@@ -17,33 +17,34 @@ unfoldable pub standingInRange : ℕ → Notice → Bool
 standingInRange n Nothing = true
 standingInRange n (Sent m) = admits m && not (isCancel m) && ltb (m .reference) n
 
--- no more than 10,000,000 samples were taken, no count or tick is above their number, and the filter and the standing message are in range
-unfoldable pub rangeTests : State → List Bool
-rangeTests s =
-    leb (s .taken) 10000000
-    ∷ inRange (s .filter)
-    ∷ leb (s .stationary) (s .taken)
-    ∷ leb (s .moving) (s .taken)
-    ∷ leb (s .runs .park) (s .taken)
-    ∷ leb (s .runs .idle) (s .taken)
-    ∷ leb (s .runs .brake) (s .taken)
-    ∷ leb (s .runs .beltoff) (s .taken)
-    ∷ leb (s .runs .ignitionoff) (s .taken)
-    ∷ leb (s .runs .door) (s .taken)
-    ∷ leb (s .runs .boot) (s .taken)
-    ∷ leb (s .runs .bonnet) (s .taken)
-    ∷ leb (s .first .ticks) (s .taken)
-    ∷ leb (s .second .ticks) (s .taken)
-    ∷ leb (s .absent .ecall) (s .taken)
-    ∷ leb (s .absent .low) (s .taken)
-    ∷ leb (s .absent .high) (s .taken)
-    ∷ leb (s .log .started) (s .taken)
-    ∷ leb (s .log .counted) (s .taken)
-    ∷ leb (s .log .cancelled) (s .taken)
-    ∷ leb (s .log .events) (s .taken)
-    ∷ standingInRange (s .taken) (s .log .standing)
-    ∷ []
+-- every number of the state that counts ticks or News, or is the number of a tick
+abbrev pub counts : State → List ℕ
+counts s =
+    s .stoppedcycle .ticks
+    ∷ s .brokendowncycle .ticks
+    ∷ s .log .started
+    ∷ s .log .counted
+    ∷ s .log .lastcancel
+    ∷ s .log .events
+    ∷ s .runs
 
--- "21 a state with a number outside the ranges"
+-- the runs stand behind the six others
+abbrev pub runPlace : ℕ → ℕ
+runPlace i = suc (suc (suc (suc (suc (suc i)))))
+
+-- none of the numbers is above n
+unfoldable pub within : ℕ → List ℕ → Bool
+within n [] = true
+within n (k ∷ ks) = leb k n && within n ks
+
+abbrev pub Within : ℕ → List ℕ → Type 0
+Within n ks = (i : ℕ) → getD ks i 0 ≤ n
+
+-- "21 a state with a number outside the ranges": no more than 10,000,000 samples were taken, no count or tick is above their number, and
+-- the filter and the standing message are in range
 unfoldable pub stateInRange : State → Bool
-stateInRange s = allHold (rangeTests s)
+stateInRange s =
+    leb (s .taken) 10000000
+    && inRange (s .filter)
+    && standingInRange (s .taken) (s .log .standing)
+    && within (s .taken) (counts s)

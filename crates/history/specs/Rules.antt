@@ -9,7 +9,7 @@ use lib.ListN.{getD}
 use Rattle.sample.specs.declared.Position.{Position}
 use Rattle.sample.specs.Sample.{switchesOf}
 use Rattle.message.specs.declared.Message.{Message}
-use Rattle.message.specs.Warnings.{byWarning, rowOf, validityOf, roadTypeOf}
+use Rattle.message.specs.Warnings.{new, update, cancel, postCrash, byRank, rowOf, validityOf, roadTypeOf}
 use Rattle.history.specs.declared.Notice.{Notice}
 use Rattle.history.specs.declared.Notice.the-variants.{Nothing, Sent}
 use Rattle.history.specs.declared.Cycle.{Cycle}
@@ -25,23 +25,9 @@ pub record Settings : Type 0 where
 abbrev pub unitSettings : Settings
 unitSettings = record { countdown = 300; reduction = 100 }
 
--- "0 kind (1 New, 2 Update, 3 Cancel)"
-abbrev pub new : ℕ
-new = 1
-
-abbrev pub update : ℕ
-update = 2
-
-abbrev pub cancel : ℕ
-cancel = 3
-
 -- "1 stopped, 2 broken-down, 3 post-crash; a higher number outranks"; the rank of no warning is 0
 unfoldable pub rank : ℕ → ℕ
-rank warning = byWarning 1 2 3 warning
-
--- the warnings by falling rank
-abbrev pub byRank : List ℕ
-byRank = 3 ∷ 2 ∷ 1 ∷ []
+rank warning = rowOf warning .rank
 
 -- the rank of the standing warning
 unfoldable pub standingRank : Notice → ℕ
@@ -70,7 +56,7 @@ crashTriggers v = eqb (v .recent) 3 || (ltb 0 (v .recent) && ltb 0 (v .stationar
 -- by the warning's number; no other number triggers
 unfoldable pub triggers : Settings → View → ℕ → Bool
 triggers S v warning =
-    getD (false ∷ cycleTriggers S (v .first) ∷ cycleTriggers S (v .second) ∷ crashTriggers v ∷ []) warning false
+    getD (false ∷ cycleTriggers S (v .stoppedcycle) ∷ cycleTriggers S (v .brokendowncycle) ∷ crashTriggers v ∷ []) warning false
 
 -- "A warning outranking the standing one triggers (with none standing, any)"
 unfoldable pub overrules : Settings → View → ℕ → Bool
@@ -88,7 +74,7 @@ highest S v = highestOf S v byRank
 
 -- "Quality for 1 and 2: 3 if one of e-h is fulfilled at this tick, else 2 if one of a-d is, else 1. For 3: the highest of .." the happenings' g
 unfoldable pub qualityOf : View → ℕ → ℕ → ℕ
-qualityOf v warning g = cond (eqb warning 3) g (cond (v .expiring) 3 (cond (v .shortening) 2 1))
+qualityOf v warning g = cond (eqb warning postCrash) g (cond (v .expiring) 3 (cond (v .shortening) 2 1))
 
 -- "whole minutes of the unbroken still run, now minus its first tick; 0 below 1 minute or not still, 1 below 2, 2 below 15, else 3"
 unfoldable pub stationarySince : ℕ → ℕ
@@ -153,7 +139,7 @@ drivenOff v m = ltb (rowOf (m .warning) .delay) (v .moving) && leb (v .started +
 
 -- "hazard lights off (not for 3, U)"
 unfoldable pub hazardOff : View → Message → Bool
-hazardOff v m = not (eqb (m .warning) 3) && not (switchesOf (v .sample) .hazard)
+hazardOff v m = not (eqb (m .warning) postCrash) && not (switchesOf (v .sample) .hazard)
 
 -- "2. The standing one is cancelled"
 unfoldable pub cancelDue : View → Message → Bool

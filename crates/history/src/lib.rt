@@ -4,6 +4,36 @@ use filter::Filter;
 use message::Message;
 use sample::Sample;
 
+// The state's unbroken runs, by their places: for how many ticks up to now the vehicle has stood still, has moved, each lever and
+// switch has been as conditions a to h ask, and no eCall, no low severity crash or pedestrian collision, no high severity crash came.
+pub const RUNS: usize = 13;
+
+pub const STILL: usize = 0;
+
+pub const MOVING: usize = 1;
+
+pub const PARK: usize = 2;
+
+pub const IDLE: usize = 3;
+
+pub const BRAKE: usize = 4;
+
+pub const BELT_OFF: usize = 5;
+
+pub const IGNITION_OFF: usize = 6;
+
+pub const DOOR: usize = 7;
+
+pub const BOOT: usize = 8;
+
+pub const BONNET: usize = 9;
+
+pub const NO_ECALL: usize = 10;
+
+pub const NO_LOW: usize = 11;
+
+pub const NO_HIGH: usize = 12;
+
 // A message, or none.
 pub enum Notice {
     Nothing,
@@ -20,18 +50,6 @@ pub struct Cycle {
     pub expiring: bool,
 }
 
-// For how many ticks up to now each lever or switch has been as conditions a to h ask.
-pub struct Runs {
-    pub park: u32,
-    pub idle: u32,
-    pub brake: u32,
-    pub beltoff: u32,
-    pub ignitionoff: u32,
-    pub door: u32,
-    pub boot: u32,
-    pub bonnet: u32,
-}
-
 // Which of conditions a to d are fulfilled now, and whether one of e to h is.
 pub struct Conditions {
     pub park: bool,
@@ -41,33 +59,23 @@ pub struct Conditions {
     pub expiring: bool,
 }
 
-// For how many ticks up to now there has been no eCall, no low severity crash or pedestrian collision, no high severity crash.
-pub struct Absent {
-    pub ecall: u32,
-    pub low: u32,
-    pub high: u32,
-}
-
 // What is kept of the messages given: the standing warning's last New or Update, the tick of the last New and the first tick that
 // it counted, the tick of the last Cancel of warning 3, and the number of News.
 pub struct Log {
     pub standing: Notice,
     pub started: u32,
     pub counted: u32,
-    pub cancelled: u32,
+    pub lastcancel: u32,
     pub events: u32,
 }
 
 pub struct State {
     pub taken: u32,
     pub filter: Filter,
-    pub stationary: u32,
-    pub moving: u32,
     pub ignition: bool,
-    pub runs: Runs,
-    pub first: Cycle,
-    pub second: Cycle,
-    pub absent: Absent,
+    pub runs: [u32; RUNS],
+    pub stoppedcycle: Cycle,
+    pub brokendowncycle: Cycle,
     pub log: Log,
 }
 
@@ -84,8 +92,8 @@ pub struct View {
     pub switchedoff: bool,
     pub shortening: bool,
     pub expiring: bool,
-    pub first: Cycle,
-    pub second: Cycle,
+    pub stoppedcycle: Cycle,
+    pub brokendowncycle: Cycle,
     pub recent: u8,
     pub kept: u8,
 }

@@ -3,7 +3,7 @@
 use mathlib.Core.Path.{_≡_, refl}
 use mathlib.Core.Bool.{Bool, true, false, not, _&&_}
 use Prim.Native.Nat.{ℕ, _/_, _%_}
-use borrow.Author.Tests.{eq-eqb, ne-eqb}
+use borrow.Author.Tests.{not-true, not-false}
 use lib.Dec.{T, eqb}
 use lib.Ieee.{binary32, ofBits, nanBits}
 use Rattle.filter.specs.declared.Filter.the-variants.{Empty, Running}
@@ -19,16 +19,16 @@ nan-test bits = refl
 pub bits-no-nan : (bits : ℕ) → nanTest bits ≡ false → T (not (nanBits binary32 bits))
 bits-no-nan bits e = rw (nan-test bits, e) tt
 
-module _ (tag bits : ℕ) where
-  pub filter-untagged : (tag ≡ 1 → ⊥) → Empty ≡ filterIn tag bits
+module _ (running : Bool) (bits : ℕ) where
+  pub filter-empty : not running ≡ true → Empty ≡ filterIn running bits
   unfolding filterIn
-  filter-untagged h = simp (ne-eqb _ _ h)
+  filter-empty h = rw (not-true running h)
 
-  module _ (t : tag ≡ 1) where
-    pub filter-nan : nanTest bits ≡ true → Empty ≡ filterIn tag bits
+  module _ (h : not running ≡ false) where
+    pub filter-nan : nanTest bits ≡ true → Empty ≡ filterIn running bits
     unfolding filterIn
-    filter-nan e = rw (eq-eqb _ _ t, nan-test bits, e)
+    filter-nan e = rw (not-false running h, nan-test bits, e)
 
-    pub filter-value : nanTest bits ≡ false → Running (ofBits binary32 bits) ≡ filterIn tag bits
+    pub filter-value : nanTest bits ≡ false → Running (ofBits binary32 bits) ≡ filterIn running bits
     unfolding filterIn
-    filter-value e = rw (eq-eqb _ _ t, nan-test bits, e)
+    filter-value e = rw (not-false running h, nan-test bits, e)

@@ -1,5 +1,7 @@
 pub mod SameBytes
 pub mod WordBytes
+pub mod NumbersIn
+pub mod RunsKept
 pub mod FilterBits
 pub mod StandingIn
 pub mod SavedParts

@@ -1,15 +1,16 @@
 -- The state in what was saved is the state again, part by part.
 -- Assumes nothing.
-use mathlib.Core.Path.{_≡_, refl, ap, _∙_}
+use mathlib.Core.Path.{_≡_, refl, sym, ap, _∙_}
 use mathlib.Core.Bool.{Bool, true, false}
-use Prim.Native.Nat.{ℕ, _≤_}
+use mathlib.Core.List.{_∷_, _++_}
+use Prim.Native.Nat.{ℕ, zero, suc, _+_, _*_, _^_, _<_}
 use native.Mathlib.Omega.{arith}
-use lib.Dec.{T}
+use lib.Dec.{T, eqb}
+use lib.ListN.{length, getD, take, drop}
+use lib.Seq.{take-at, ext-getD}
 use lib.Ieee.{Float, nan, inf, fin, binary32, toBits, isNan, le}
 use lib.Ieee.Bits.{ofBits-toBits, toBits-lt, nanBits-is}
 use lib.Ieee.Fits.{and-r}
-use Rattle.wire.specs.Words.{little, bytesOf, bytesAt}
-use Rattle.wire.proofs.Words.{little-bytesOf}
 use Rattle.wire.proofs.Tests.{true-holds}
 use Rattle.filter.specs.Filter.{lowest, highest, inRange, isF32}
 use Rattle.filter.specs.declared.Filter.{Filter}
@@ -20,20 +21,25 @@ use Rattle.message.proofs.RoundTrip.{written-reads-back}
 use Rattle.history.specs.declared.Notice.{Notice}
 use Rattle.history.specs.declared.Notice.the-variants.{Nothing, Sent}
 use Rattle.history.specs.declared.State.{State}
+use Rattle.history.specs.Runs.{runCount}
 use Rattle.history.specs.Ranges.{stateInRange}
-use Rattle.history.proofs.StateMade.{runs-made, cycle-made, absent-made, log-made, state-made}
+use Rattle.history.proofs.StateMade.{cycle-made, log-made, state-made}
 use Rattle.history.proofs.InRange.{InRange, in-range}
-use Rattle.image.specs.Image.{flag, isRunning, filterBits, isSent, wordsOf, wordBytes, flagsOf, standingBytes, imageOf, isSet, filterIn, noticeOf, standingIn, runsIn, firstIn, secondIn, absentIn, logIn, stateIn}
+use Rattle.image.specs.Image.{layout, stoppedMarks, brokenDownMarks, sentFlag, standingPlace, wordsPlace, numberCount, flag, isRunning, filterBits, isSent, flagsOf, standingBytes, wordsOf, wordBytes, imageOf, flagIn, numberIn, runsIn, filterIn, noticeOf, standingIn, cycleIn, logIn, stateIn}
+use Rattle.image.proofs.WordBytes.{word-behind, Fit, word-at}
+use Rattle.image.proofs.SavedParts.{standing-length, head-length}
+use Rattle.image.proofs.NumbersIn.{runs-in-length, run-in-at}
 
 -- ---- the parts, saved and read back
 
--- a number of a state in range fits four bytes
-number-again : (n : ℕ) → n ≤ 10000000 → little (bytesOf 4 n) ≡ n
-number-again n h = little-bytesOf 4 n (omega arith)
-
-flag-again : (b : Bool) → isSet (flag b) ≡ b
+flag-again : (b : Bool) → eqb (flag b) 1 ≡ b
 flag-again true = refl
 flag-again false = refl
+
+bits-fit : (f : Filter) → T (isF32 f) → filterBits f < 256 ^ 4
+unfolding filterBits isF32
+bits-fit Empty t = omega arith
+bits-fit (Running f) t = toBits-lt binary32 f t
 
 no-nan : (f : Float) → T (le f highest) → isNan f ≡ false
 unfolding le isNan
@@ -41,91 +47,110 @@ no-nan nan t = absurd t
 no-nan (inf s) t = refl
 no-nan (fin s m e) t = refl
 
-filter-again : (f : Filter) → T (inRange f) → T (isF32 f) → filterIn (flag (isRunning f)) (little (bytesOf 4 (filterBits f))) ≡ f
+filter-again : (f : Filter) → T (inRange f) → T (isF32 f) → filterIn (isRunning f) (filterBits f) ≡ f
 unfolding filterIn isRunning filterBits inRange isF32
 filter-again Empty r t = refl
 filter-again (Running f) r t =
     let again = ofBits-toBits binary32 f t in
-    let number = little-bytesOf 4 (toBits binary32 f) (toBits-lt binary32 f t) in
     let plain = nanBits-is binary32 (toBits binary32 f) ∙ ap isNan again ∙ no-nan f (and-r (le lowest f) (le f highest) r) in
-    rw (number, plain, again)
+    rw (plain, again)
 
-standing-again : (n : Notice) → ((m : Message) → n ≡ Sent m → T (admits m)) → standingIn (flag (isSent n)) (standingBytes n) ≡ n
+standing-again : (n : Notice) → ((m : Message) → n ≡ Sent m → T (admits m)) → standingIn (isSent n) (standingBytes n) ≡ n
 unfolding standingIn isSent standingBytes noticeOf
 standing-again Nothing h = refl
 standing-again (Sent m) h = rw (written-reads-back m (h m refl))
 
 -- ---- the state
 
-module _ (s : State) (h : InRange s) (few : s .taken ≤ 10000000) where
+module _ (s : State) (h : InRange s) (size : length (s .runs) ≡ runCount) (t : T (isF32 (s .filter))) where
+  fit : Fit (wordsOf s)
+  unfolding wordsOf
+  fit zero = omega (arith, h .taken)
+  fit (suc zero) = bits-fit (s .filter) t
+  fit (suc (suc i)) = omega (arith, h .counts i, h .taken)
+
+  -- each number stands at its place
+  number-again : (k : ℕ) → numberIn k (imageOf s) ≡ getD (wordsOf s) k 0
+  unfolding numberIn imageOf
+  number-again k = word-behind (layout ∷ flagsOf s ++ standingBytes (s .log .standing)) (wordBytes (wordsOf s)) wordsPlace (4 * k) (head-length s) ∙ word-at (wordsOf s) fit k
+
+  -- and the runs behind the others
+  run-behind : (i : ℕ) → getD (wordsOf s) (numberCount + i) 0 ≡ getD (s .runs) i 0
+  unfolding wordsOf
+  run-behind i =
+      let e : numberCount + i ≡ suc (suc (suc (suc (suc (suc (suc (suc i))))))) = omega arith in
+      ap (λ (k : ℕ). getD (wordsOf s) k 0) e
+
   runs-again : runsIn (imageOf s) ≡ s .runs
-  unfolding runsIn imageOf wordsOf wordBytes bytesOf bytesAt
   runs-again =
-      runs-made (s .runs) _ _ _ _ _ _ _ _
-      (number-again (s .runs .park) (omega (arith, h .park)))
-      (number-again (s .runs .idle) (omega (arith, h .idle)))
-      (number-again (s .runs .brake) (omega (arith, h .brake)))
-      (number-again (s .runs .beltoff) (omega (arith, h .beltoff)))
-      (number-again (s .runs .ignitionoff) (omega (arith, h .ignitionoff)))
-      (number-again (s .runs .door) (omega (arith, h .door)))
-      (number-again (s .runs .boot) (omega (arith, h .boot)))
-      (number-again (s .runs .bonnet) (omega (arith, h .bonnet)))
+      let l = runs-in-length (imageOf s) in
+      ext-getD 0 (runsIn (imageOf s)) (s .runs) (l ∙ sym size) (λ i b.
+      run-in-at (imageOf s) i (omega arith) ∙ number-again (numberCount + i) ∙ run-behind i)
 
-  first-again : firstIn (imageOf s) ≡ s .first
-  unfolding firstIn imageOf wordsOf wordBytes flagsOf bytesOf bytesAt
+  first-again : cycleIn 2 stoppedMarks (imageOf s) ≡ s .stoppedcycle
+  unfolding flagIn imageOf flagsOf wordsOf
   first-again =
-      cycle-made (s .first) _ _ _ _ _ _
-      (number-again (s .first .ticks) (omega (arith, h .first)))
-      (flag-again (s .first .park))
-      (flag-again (s .first .idle))
-      (flag-again (s .first .brake))
-      (flag-again (s .first .belt))
-      (flag-again (s .first .expiring))
+      cycle-made (s .stoppedcycle) _ _ _ _ _ _
+      (number-again 2)
+      (flag-again (s .stoppedcycle .park))
+      (flag-again (s .stoppedcycle .idle))
+      (flag-again (s .stoppedcycle .brake))
+      (flag-again (s .stoppedcycle .belt))
+      (flag-again (s .stoppedcycle .expiring))
 
-  second-again : secondIn (imageOf s) ≡ s .second
-  unfolding secondIn imageOf wordsOf wordBytes flagsOf bytesOf bytesAt
+  second-again : cycleIn 3 brokenDownMarks (imageOf s) ≡ s .brokendowncycle
+  unfolding flagIn imageOf flagsOf wordsOf
   second-again =
-      cycle-made (s .second) _ _ _ _ _ _
-      (number-again (s .second .ticks) (omega (arith, h .second)))
-      (flag-again (s .second .park))
-      (flag-again (s .second .idle))
-      (flag-again (s .second .brake))
-      (flag-again (s .second .belt))
-      (flag-again (s .second .expiring))
+      cycle-made (s .brokendowncycle) _ _ _ _ _ _
+      (number-again 3)
+      (flag-again (s .brokendowncycle .park))
+      (flag-again (s .brokendowncycle .idle))
+      (flag-again (s .brokendowncycle .brake))
+      (flag-again (s .brokendowncycle .belt))
+      (flag-again (s .brokendowncycle .expiring))
 
-  absent-again : absentIn (imageOf s) ≡ s .absent
-  unfolding absentIn imageOf wordsOf wordBytes bytesOf bytesAt
-  absent-again =
-      absent-made (s .absent) _ _ _
-      (number-again (s .absent .ecall) (omega (arith, h .ecall)))
-      (number-again (s .absent .low) (omega (arith, h .low)))
-      (number-again (s .absent .high) (omega (arith, h .high)))
+  record-again : take 32 (drop standingPlace (imageOf s)) ≡ standingBytes (s .log .standing)
+  unfolding imageOf flagsOf
+  record-again = take-at (standingBytes (s .log .standing)) (wordBytes (wordsOf s)) 32 (standing-length (s .log .standing))
+
+  sent-again : flagIn sentFlag (imageOf s) ≡ isSent (s .log .standing)
+  unfolding flagIn imageOf flagsOf
+  sent-again = flag-again (isSent (s .log .standing))
 
   log-again : logIn (imageOf s) ≡ s .log
-  unfolding logIn imageOf wordsOf wordBytes flagsOf bytesOf bytesAt
+  unfolding logIn wordsOf
   log-again =
       log-made (s .log) _ _ _ _ _
-      (standing-again (s .log .standing) (λ m e. h .standing m e .0))
-      (number-again (s .log .started) (omega (arith, h .started)))
-      (number-again (s .log .counted) (omega (arith, h .counted)))
-      (number-again (s .log .cancelled) (omega (arith, h .cancelled)))
-      (number-again (s .log .events) (omega (arith, h .events)))
+      (rw (sent-again, record-again) (standing-again (s .log .standing) (λ m e. h .standing m e .0)))
+      (number-again 4)
+      (number-again 5)
+      (number-again 6)
+      (number-again 7)
 
-  state-again : T (isF32 (s .filter)) → stateIn (imageOf s) ≡ s
-  unfolding stateIn imageOf wordsOf wordBytes flagsOf bytesOf bytesAt
-  state-again t =
-      state-made s _ _ _ _ _ _ _ _ _ _
-      (number-again (s .taken) few)
-      (filter-again (s .filter) (h .filter) t)
-      (number-again (s .stationary) (omega (arith, h .stationary)))
-      (number-again (s .moving) (omega (arith, h .moving)))
-      (flag-again (s .ignition))
+  running-again : flagIn 0 (imageOf s) ≡ isRunning (s .filter)
+  unfolding flagIn imageOf flagsOf
+  running-again = flag-again (isRunning (s .filter))
+
+  bits-again : numberIn 1 (imageOf s) ≡ filterBits (s .filter)
+  unfolding wordsOf
+  bits-again = number-again 1
+
+  ignition-again : flagIn 1 (imageOf s) ≡ s .ignition
+  unfolding flagIn imageOf flagsOf
+  ignition-again = flag-again (s .ignition)
+
+  state-again : stateIn (imageOf s) ≡ s
+  unfolding stateIn wordsOf
+  state-again =
+      state-made s _ _ _ _ _ _ _
+      (number-again 0)
+      (rw (running-again, bits-again) (filter-again (s .filter) (h .filter) t))
+      ignition-again
       runs-again
       first-again
       second-again
-      absent-again
       log-again
 
--- a state within 21's ranges, whose filter has an f32's value, is read back from its image
-pub state-in-image : (s : State) → stateInRange s ≡ true → T (isF32 (s .filter)) → stateIn (imageOf s) ≡ s
-state-in-image s range f32 = let h = in-range s (true-holds (stateInRange s) range) in state-again s h (h .taken) f32
+-- a state within 21's ranges, with every run, whose filter has an f32's value, is read back from its image
+pub state-in-image : (s : State) → stateInRange s ≡ true → length (s .runs) ≡ runCount → T (isF32 (s .filter)) → stateIn (imageOf s) ≡ s
+state-in-image s range size f32 = state-again s (in-range s (true-holds (stateInRange s) range)) size f32

@@ -1,12 +1,13 @@
--- The engine's image of 129 bytes: what saving makes of an engine, what is read back from an image, and which bytes are an image.
+-- The engine's image: what saving makes of an engine, what is read back from an image, and which bytes are an image.
 -- Assumes nothing. The value of a running filter is kept by its bits, as `lib.Ieee` gives them.
-use Prim.Native.Nat.{ℕ}
+use Prim.Native.Nat.{ℕ, zero, suc, _+_, _*_}
 use mathlib.Core.Path.{_≡_}
 use mathlib.Core.Bool.{Bool, true, false, not, _&&_, cond}
 use mathlib.Core.List.{List, [], _∷_, _++_}
 use lib.Dec.{eqb}
-use lib.ListN.{length, getD, drop, replicate}
+use lib.ListN.{length, getD, take, drop, replicate}
 use lib.Ieee.{binary32, ofBits, toBits, nanBits}
+use mir.Val.{boolByte}
 use Rattle.wire.specs.Words.{bytesOf, word}
 use Rattle.wire.specs.Outcome.{check, firstFault, Outcome, accepted, refused, outcome}
 use Rattle.filter.specs.declared.Filter.{Filter}
@@ -16,20 +17,58 @@ use Rattle.message.specs.Message.{encode, messageRead}
 use Rattle.history.specs.declared.Notice.{Notice}
 use Rattle.history.specs.declared.Notice.the-variants.{Nothing, Sent}
 use Rattle.history.specs.declared.Cycle.{Cycle}
-use Rattle.history.specs.declared.Runs.{Runs}
-use Rattle.history.specs.declared.Absent.{Absent}
 use Rattle.history.specs.declared.Log.{Log}
 use Rattle.history.specs.declared.State.{State}
-use Rattle.history.specs.Ranges.{stateInRange}
+use Rattle.history.specs.Runs.{runCount}
+use Rattle.history.specs.Ranges.{counts, stateInRange}
 use Rattle.engine.specs.declared.Engine.{Engine}
 use Rattle.image.specs.declared.Loading.{Loading}
-use Rattle.image.specs.declared.Loading.the-variants.{Accepted, Refused}
+
+-- ---- the places
+
+-- byte 0 is the layout's number. An image outlives the software that saved it: every change of what an image holds raises the number,
+-- so that an image of another layout is told by its first byte
+abbrev pub layout : ℕ
+layout = 1
+
+-- then yes or no, one byte each: whether the filter is running, ignition, five marks of each cycle, whether a warning stands
+abbrev pub flagsPlace : ℕ
+flagsPlace = 1
+
+abbrev pub stoppedMarks : ℕ
+stoppedMarks = 2
+
+abbrev pub brokenDownMarks : ℕ
+brokenDownMarks = stoppedMarks + 5
+
+abbrev pub sentFlag : ℕ
+sentFlag = brokenDownMarks + 5
+
+abbrev pub flagCount : ℕ
+flagCount = sentFlag + 1
+
+-- then the standing warning's record
+abbrev pub standingPlace : ℕ
+standingPlace = flagsPlace + flagCount
+
+-- then the numbers, four bytes each, the runs at the end: one run more changes the size and no other place
+abbrev pub wordsPlace : ℕ
+wordsPlace = standingPlace + 32
+
+abbrev pub numberCount : ℕ
+numberCount = 8
+
+abbrev pub runsPlace : ℕ
+runsPlace = wordsPlace + 4 * numberCount
+
+abbrev pub imageSize : ℕ
+imageSize = runsPlace + 4 * runCount
 
 -- ---- the image of a state
 
 -- a yes or no is the byte 1 or 0
 abbrev pub flag : Bool → ℕ
-flag b = cond b 1 0
+flag b = boolByte b
 
 unfoldable pub isRunning : Filter → Bool
 isRunning Empty = false
@@ -43,130 +82,90 @@ unfoldable pub isSent : Notice → Bool
 isSent Nothing = false
 isSent (Sent m) = true
 
--- 0-83: the numbers, four bytes each
+-- a cycle's conditions a to d, and one of e to h
+abbrev pub marksOf : Cycle → List ℕ
+marksOf c = flag (c .park) ∷ flag (c .idle) ∷ flag (c .brake) ∷ flag (c .belt) ∷ flag (c .expiring) ∷ []
+
+-- by whether the filter is running and whether a warning stands
+abbrev pub flagsBy : Bool → Bool → State → List ℕ
+flagsBy running sent s = flag running ∷ flag (s .ignition) ∷ marksOf (s .stoppedcycle) ++ marksOf (s .brokendowncycle) ++ (flag sent ∷ [])
+
+unfoldable pub flagsOf : State → List ℕ
+flagsOf s = flagsBy (isRunning (s .filter)) (isSent (s .log .standing)) s
+
+-- the record of the standing warning's last New or Update, zeros where none stands
+unfoldable pub standingBytes : Notice → List ℕ
+standingBytes Nothing = replicate 32 0
+standingBytes (Sent m) = encode m
+
+-- `counts` ends with the runs
 unfoldable pub wordsOf : State → List ℕ
-wordsOf s =
-    s .taken
-    ∷ filterBits (s .filter)
-    ∷ s .stationary
-    ∷ s .moving
-    ∷ s .runs .park
-    ∷ s .runs .idle
-    ∷ s .runs .brake
-    ∷ s .runs .beltoff
-    ∷ s .runs .ignitionoff
-    ∷ s .runs .door
-    ∷ s .runs .boot
-    ∷ s .runs .bonnet
-    ∷ s .first .ticks
-    ∷ s .second .ticks
-    ∷ s .absent .ecall
-    ∷ s .absent .low
-    ∷ s .absent .high
-    ∷ s .log .started
-    ∷ s .log .counted
-    ∷ s .log .cancelled
-    ∷ s .log .events
-    ∷ []
+wordsOf s = s .taken ∷ filterBits (s .filter) ∷ counts s
 
 unfoldable pub wordBytes : List ℕ → List ℕ
 wordBytes [] = []
 wordBytes (w ∷ ws) = bytesOf 4 w ++ wordBytes ws
 
--- 84-96: yes or no, one byte each
-unfoldable pub flagsOf : State → List ℕ
-flagsOf s =
-    flag (isRunning (s .filter))
-    ∷ flag (s .ignition)
-    ∷ flag (s .first .park)
-    ∷ flag (s .first .idle)
-    ∷ flag (s .first .brake)
-    ∷ flag (s .first .belt)
-    ∷ flag (s .first .expiring)
-    ∷ flag (s .second .park)
-    ∷ flag (s .second .idle)
-    ∷ flag (s .second .brake)
-    ∷ flag (s .second .belt)
-    ∷ flag (s .second .expiring)
-    ∷ flag (isSent (s .log .standing))
-    ∷ []
-
--- 97-128: the record of the standing warning's last New or Update, zeros where none stands
-unfoldable pub standingBytes : Notice → List ℕ
-standingBytes Nothing = replicate 32 0
-standingBytes (Sent m) = encode m
-
 unfoldable pub imageOf : State → List ℕ
-imageOf s = wordBytes (wordsOf s) ++ flagsOf s ++ standingBytes (s .log .standing)
+imageOf s = layout ∷ flagsOf s ++ standingBytes (s .log .standing) ++ wordBytes (wordsOf s)
 
 -- ---- the state in an image
 
-abbrev pub isSet : ℕ → Bool
-isSet b = eqb b 1
+-- yes or no, and number, by their places among the others: flags in the order of `flagsBy`, numbers in that of `wordsOf`
+unfoldable pub flagIn : ℕ → List ℕ → Bool
+flagIn k s = eqb (getD s (flagsPlace + k) 0) 1
+
+unfoldable pub numberIn : ℕ → List ℕ → ℕ
+numberIn k s = word 4 s (wordsPlace + 4 * k)
+
+-- n numbers from number k on
+unfoldable pub numbersIn : ℕ → ℕ → List ℕ → List ℕ
+numbersIn k zero s = []
+numbersIn k (suc n) s = numberIn k s ∷ numbersIn (k + 1) n s
+
+unfoldable pub runsIn : List ℕ → List ℕ
+runsIn s = numbersIn numberCount runCount s
 
 -- a NaN's bits are no filter's
-unfoldable pub filterIn : ℕ → ℕ → Filter
-filterIn tag bits = cond (isSet tag && not (nanBits binary32 bits)) (Running (ofBits binary32 bits)) Empty
+unfoldable pub filterIn : Bool → ℕ → Filter
+filterIn running bits = cond (running && not (nanBits binary32 bits)) (Running (ofBits binary32 bits)) Empty
 
 -- a refused record is none's
 unfoldable pub noticeOf : Outcome Message → Notice
 noticeOf (accepted m) = Sent m
 noticeOf (refused n) = Nothing
 
-unfoldable pub standingIn : ℕ → List ℕ → Notice
-standingIn tag bytes = cond (isSet tag) (noticeOf (messageRead bytes)) Nothing
+unfoldable pub standingIn : Bool → List ℕ → Notice
+standingIn sent bytes = cond sent (noticeOf (messageRead bytes)) Nothing
 
-abbrev pub cycleIn : ℕ → ℕ → ℕ → ℕ → ℕ → ℕ → Cycle
-cycleIn ticks a b c d e = record {
-  ticks = ticks;
-  park = isSet a;
-  idle = isSet b;
-  brake = isSet c;
-  belt = isSet d;
-  expiring = isSet e;
+-- a cycle, by the place of its ticks among the numbers and of its first mark among the flags
+abbrev pub cycleIn : ℕ → ℕ → List ℕ → Cycle
+cycleIn ticks mark s = record {
+  ticks = numberIn ticks s;
+  park = flagIn mark s;
+  idle = flagIn (mark + 1) s;
+  brake = flagIn (mark + 2) s;
+  belt = flagIn (mark + 3) s;
+  expiring = flagIn (mark + 4) s;
 }
-
-unfoldable pub runsIn : List ℕ → Runs
-runsIn s = record {
-  park = word 4 s 16;
-  idle = word 4 s 20;
-  brake = word 4 s 24;
-  beltoff = word 4 s 28;
-  ignitionoff = word 4 s 32;
-  door = word 4 s 36;
-  boot = word 4 s 40;
-  bonnet = word 4 s 44;
-}
-
-unfoldable pub firstIn : List ℕ → Cycle
-firstIn s = cycleIn (word 4 s 48) (getD s 86 0) (getD s 87 0) (getD s 88 0) (getD s 89 0) (getD s 90 0)
-
-unfoldable pub secondIn : List ℕ → Cycle
-secondIn s = cycleIn (word 4 s 52) (getD s 91 0) (getD s 92 0) (getD s 93 0) (getD s 94 0) (getD s 95 0)
-
-unfoldable pub absentIn : List ℕ → Absent
-absentIn s = record { ecall = word 4 s 56; low = word 4 s 60; high = word 4 s 64 }
 
 unfoldable pub logIn : List ℕ → Log
 logIn s = record {
-  standing = standingIn (getD s 96 0) (drop 97 s);
-  started = word 4 s 68;
-  counted = word 4 s 72;
-  cancelled = word 4 s 76;
-  events = word 4 s 80;
+  standing = standingIn (flagIn sentFlag s) (take 32 (drop standingPlace s));
+  started = numberIn 4 s;
+  counted = numberIn 5 s;
+  lastcancel = numberIn 6 s;
+  events = numberIn 7 s;
 }
 
 unfoldable pub stateIn : List ℕ → State
 stateIn s = record {
-  taken = word 4 s 0;
-  filter = filterIn (getD s 84 0) (word 4 s 4);
-  stationary = word 4 s 8;
-  moving = word 4 s 12;
-  ignition = isSet (getD s 85 0);
+  taken = numberIn 0 s;
+  filter = filterIn (flagIn 0 s) (numberIn 1 s);
+  ignition = flagIn 1 s;
   runs = runsIn s;
-  first = firstIn s;
-  second = secondIn s;
-  absent = absentIn s;
+  stoppedcycle = cycleIn 2 stoppedMarks s;
+  brokendowncycle = cycleIn 3 brokenDownMarks s;
   log = logIn s;
 }
 
@@ -178,9 +177,10 @@ sameBytes [] (y ∷ ys) = false
 sameBytes (x ∷ xs) [] = false
 sameBytes (x ∷ xs) (y ∷ ys) = eqb x y && sameBytes xs ys
 
--- 129 bytes, that are byte for byte what saving makes of the state in them, and that state is within 21's ranges
+-- as many bytes as an image has, the first of them this layout's, byte for byte what saving makes of the state in them, and that
+-- state within 21's ranges
 unfoldable pub isImage : List ℕ → Bool
-isImage s = eqb (length s) 129 && stateInRange (stateIn s) && sameBytes (imageOf (stateIn s)) s
+isImage s = eqb (length s) imageSize && eqb (getD s 0 0) layout && stateInRange (stateIn s) && sameBytes (imageOf (stateIn s)) s
 
 abbrev pub engineIn : List ℕ → Engine
 engineIn s = record { state = stateIn s }
@@ -191,8 +191,7 @@ imageRead s = outcome (firstFault (check 21 (not (isImage s)) ∷ [])) (engineIn
 
 -- the engine or the refusal number that loading answers
 unfoldable pub loading : Loading → Outcome Engine
-loading (Accepted e) = accepted e
-loading (Refused n) = refused n
+loading r = outcome (r .fault) (r .engine)
 
 -- the promise of `save`: the image, and that it loads as the same engine, where that is within 21's ranges
 pub record Saved (e : Engine) (r : List ℕ) : Type 0 where
@@ -202,4 +201,4 @@ pub record Saved (e : Engine) (r : List ℕ) : Type 0 where
 -- the promise of `load`: what it finds, and that an accepted image is byte for byte what saving makes of its engine
 pub record Loaded (image : List ℕ) (r : Loading) : Type 0 where
   pub found : loading r ≡ imageRead image
-  pub as-saved : (e : Engine) → r ≡ Accepted e → imageOf (e .state) ≡ image
+  pub as-saved : (e : Engine) → loading r ≡ accepted e → imageOf (e .state) ≡ image

@@ -1,21 +1,56 @@
 // The engine's state, each part from its place in an image.
 ghost use mathlib.Core.Path.{_≡_};
+ghost use Prim.Native.Nat.{_+_, _≤_, _<_};
 ghost use lib.ListN.{length};
-ghost use Rattle.image.specs.Image.{filterIn, standingIn, cycleIn, runsIn, firstIn, secondIn, absentIn, logIn, stateIn, sameBytes};
+ghost use Rattle.history.specs.Runs.{runCount};
+ghost use Rattle.image.specs.Image.{flagCount, numberCount, imageSize, flagIn, numberIn, runsIn, filterIn, standingIn, cycleIn, logIn, stateIn, sameBytes};
+use crate::BROKEN_DOWN_MARKS;
+use crate::FLAGS_AT;
+use crate::NUMBERS;
+use crate::SENT;
+use crate::STANDING_AT;
+use crate::STOPPED_MARKS;
+use crate::WORDS_AT;
 use filter::Filter;
-use history::Absent;
 use history::Cycle;
 use history::Log;
 use history::Notice;
-use history::Runs;
+use history::RUNS;
 use history::State;
 use message::Reading;
 
-// The filter by its tag and bits. The bits of a NaN are an exponent of ones and digits that are not 0.
-fn filter_in(tag: u8, bits: u32) -> Filter
-    ensures { λ r. ⌜ r ≡ filterIn tag bits ⌝ }
+// Yes or no, and number, by their places among the others, in the order of `encoding`.
+fn flag_in(s: &[u8], k: usize) -> bool
+    requires { ⌜ k < flagCount ⌝ }
+    ensures { λ r. ⌜ r ≡ flagIn k (now (s .entry)) ⌝ }
 {
-    if tag != 1 {
+    wire::byte_at(s, FLAGS_AT + k) == 1
+}
+
+fn number_in(s: &[u8], k: usize) -> u32
+    requires { ⌜ k < numberCount + runCount ⌝ }
+    ensures { λ r. ⌜ r ≡ numberIn k (now (s .entry)) ⌝ }
+{
+    wire::word32(s, WORDS_AT + 4 * k)
+}
+
+fn runs_in(s: &[u8]) -> [u32; RUNS]
+    ensures { λ r. ⌜ r ≡ runsIn (now (s .entry)) ⌝ }
+{
+    let mut runs = [0u32; RUNS];
+    let mut i = 0;
+    while i < RUNS {
+        runs[i] = number_in(s, NUMBERS + i);
+        i += 1;
+    }
+    runs
+}
+
+// The filter by whether it is running and its bits. The bits of a NaN are an exponent of ones and digits that are not 0.
+fn filter_in(running: bool, bits: u32) -> Filter
+    ensures { λ r. ⌜ r ≡ filterIn running bits ⌝ }
+{
+    if !running {
         return Filter::Empty;
     }
     if (bits % 2147483648 / 8388608 == 255) & (bits % 8388608 != 0) {
@@ -24,10 +59,10 @@ fn filter_in(tag: u8, bits: u32) -> Filter
     Filter::Running(f32::from_bits(bits))
 }
 
-fn standing_in(tag: u8, bytes: &[u8]) -> Notice
-    ensures { λ r. ⌜ r ≡ standingIn tag (now (bytes .entry)) ⌝ }
+fn standing_in(sent: bool, bytes: &[u8]) -> Notice
+    ensures { λ r. ⌜ r ≡ standingIn sent (now (bytes .entry)) ⌝ }
 {
-    if tag != 1 {
+    if !sent {
         return Notice::Nothing;
     }
     let reading = message::read(bytes);
@@ -37,87 +72,47 @@ fn standing_in(tag: u8, bytes: &[u8]) -> Notice
     }
 }
 
-fn cycle_in(ticks: u32, a: u8, b: u8, c: u8, d: u8, e: u8) -> Cycle
-    ensures { λ r. ⌜ r ≡ cycleIn ticks a b c d e ⌝ }
+// A cycle, by the place of its ticks among the numbers and of its first mark among the flags.
+fn cycle_in(s: &[u8], ticks: usize, mark: usize) -> Cycle
+    requires { ⌜ (ticks < numberCount) × (mark + 5 ≤ flagCount) ⌝ }
+    ensures { λ r. ⌜ r ≡ cycleIn ticks mark (now (s .entry)) ⌝ }
 {
     Cycle {
-        ticks,
-        park: a == 1,
-        idle: b == 1,
-        brake: c == 1,
-        belt: d == 1,
-        expiring: e == 1,
-    }
-}
-
-fn runs_in(s: &[u8]) -> Runs
-    requires { ⌜ length (now s) ≡ 129 ⌝ }
-    ensures { λ r. ⌜ r ≡ runsIn (now (s .entry)) ⌝ }
-{
-    Runs {
-        park: wire::word32(s, 16),
-        idle: wire::word32(s, 20),
-        brake: wire::word32(s, 24),
-        beltoff: wire::word32(s, 28),
-        ignitionoff: wire::word32(s, 32),
-        door: wire::word32(s, 36),
-        boot: wire::word32(s, 40),
-        bonnet: wire::word32(s, 44),
-    }
-}
-
-fn first_in(s: &[u8]) -> Cycle
-    requires { ⌜ length (now s) ≡ 129 ⌝ }
-    ensures { λ r. ⌜ r ≡ firstIn (now (s .entry)) ⌝ }
-{
-    cycle_in(wire::word32(s, 48), s[86], s[87], s[88], s[89], s[90])
-}
-
-fn second_in(s: &[u8]) -> Cycle
-    requires { ⌜ length (now s) ≡ 129 ⌝ }
-    ensures { λ r. ⌜ r ≡ secondIn (now (s .entry)) ⌝ }
-{
-    cycle_in(wire::word32(s, 52), s[91], s[92], s[93], s[94], s[95])
-}
-
-fn absent_in(s: &[u8]) -> Absent
-    requires { ⌜ length (now s) ≡ 129 ⌝ }
-    ensures { λ r. ⌜ r ≡ absentIn (now (s .entry)) ⌝ }
-{
-    Absent {
-        ecall: wire::word32(s, 56),
-        low: wire::word32(s, 60),
-        high: wire::word32(s, 64),
+        ticks: number_in(s, ticks),
+        park: flag_in(s, mark),
+        idle: flag_in(s, mark + 1),
+        brake: flag_in(s, mark + 2),
+        belt: flag_in(s, mark + 3),
+        expiring: flag_in(s, mark + 4),
     }
 }
 
 fn log_in(s: &[u8]) -> Log
-    requires { ⌜ length (now s) ≡ 129 ⌝ }
+    requires { ⌜ length (now s) ≡ imageSize ⌝ }
     ensures { λ r. ⌜ r ≡ logIn (now (s .entry)) ⌝ }
 {
+    let sent = flag_in(s, SENT);
     Log {
-        standing: standing_in(s[96], &s[97..]),
-        started: wire::word32(s, 68),
-        counted: wire::word32(s, 72),
-        cancelled: wire::word32(s, 76),
-        events: wire::word32(s, 80),
+        standing: standing_in(sent, &s[STANDING_AT..WORDS_AT]),
+        started: number_in(s, 4),
+        counted: number_in(s, 5),
+        lastcancel: number_in(s, 6),
+        events: number_in(s, 7),
     }
 }
 
 pub(crate) fn state_in(s: &[u8]) -> State
-    requires { ⌜ length (now s) ≡ 129 ⌝ }
+    requires { ⌜ length (now s) ≡ imageSize ⌝ }
     ensures { λ r. ⌜ r ≡ stateIn (now (s .entry)) ⌝ }
 {
+    let runs = runs_in(s);
     State {
-        taken: wire::word32(s, 0),
-        filter: filter_in(s[84], wire::word32(s, 4)),
-        stationary: wire::word32(s, 8),
-        moving: wire::word32(s, 12),
-        ignition: s[85] == 1,
-        runs: runs_in(s),
-        first: first_in(s),
-        second: second_in(s),
-        absent: absent_in(s),
+        taken: number_in(s, 0),
+        filter: filter_in(flag_in(s, 0), number_in(s, 1)),
+        ignition: flag_in(s, 1),
+        runs,
+        stoppedcycle: cycle_in(s, 2, STOPPED_MARKS),
+        brokendowncycle: cycle_in(s, 3, BROKEN_DOWN_MARKS),
         log: log_in(s),
     }
 }

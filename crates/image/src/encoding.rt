@@ -1,19 +1,14 @@
 // The parts of an image, each from the engine's state.
 ghost use mathlib.Core.Path.{_≡_};
-ghost use Prim.Native.Nat.{_*_, _≤_};
-ghost use mathlib.Core.Bool.{cond};
-ghost use lib.ListN.{length};
+ghost use Prim.Native.Nat.{_+_, _*_, _≤_};
+ghost use lib.ListN.{length, take};
 ghost use Rattle.wire.specs.Memory.{splice};
-ghost use Rattle.image.specs.Image.{isRunning, filterBits, isSent, wordsOf, wordBytes, flagsOf, standingBytes};
+ghost use Rattle.image.specs.Image.{numberCount, isRunning, filterBits, isSent, flagsBy, flagsOf, standingBytes, wordsOf, wordBytes};
+use crate::FLAGS;
+use crate::NUMBERS;
 use filter::Filter;
 use history::Notice;
 use history::State;
-
-fn flag(b: bool) -> u8
-    ensures { λ r. ⌜ r ≡ cond b 1 0 ⌝ }
-{
-    if b { 1 } else { 0 }
-}
 
 fn filter_bits(f: Filter) -> u32
     ensures { λ r. ⌜ r ≡ filterBits f ⌝ }
@@ -42,64 +37,37 @@ fn is_sent(n: Notice) -> bool
     }
 }
 
-pub(crate) fn words_of(s: State) -> [u32; 21]
-    ensures { λ r. ⌜ r ≡ wordsOf s ⌝ }
+fn flags_by(running: bool, sent: bool, s: State) -> [u8; FLAGS]
+    ensures { λ r. ⌜ r ≡ flagsBy running sent s ⌝ }
 {
-    let f = s.filter;
-    let r = s.runs;
-    let c1 = s.first;
-    let c2 = s.second;
-    let a = s.absent;
-    let l = s.log;
-    let bits = filter_bits(f);
+    let c1 = s.stoppedcycle;
+    let c2 = s.brokendowncycle;
     [
-        s.taken,
-        bits,
-        s.stationary,
-        s.moving,
-        r.park,
-        r.idle,
-        r.brake,
-        r.beltoff,
-        r.ignitionoff,
-        r.door,
-        r.boot,
-        r.bonnet,
-        c1.ticks,
-        c2.ticks,
-        a.ecall,
-        a.low,
-        a.high,
-        l.started,
-        l.counted,
-        l.cancelled,
-        l.events,
+        running as u8,
+        s.ignition as u8,
+        c1.park as u8,
+        c1.idle as u8,
+        c1.brake as u8,
+        c1.belt as u8,
+        c1.expiring as u8,
+        c2.park as u8,
+        c2.idle as u8,
+        c2.brake as u8,
+        c2.belt as u8,
+        c2.expiring as u8,
+        sent as u8,
     ]
 }
 
-pub(crate) fn flags_of(s: State) -> [u8; 13]
+pub(crate) fn flags_of(s: State) -> [u8; FLAGS]
     ensures { λ r. ⌜ r ≡ flagsOf s ⌝ }
 {
     let f = s.filter;
-    let c1 = s.first;
-    let c2 = s.second;
     let l = s.log;
     let standing = l.standing;
-    [
-        flag(is_running(f)),
-        flag(s.ignition),
-        flag(c1.park),
-        flag(c1.idle),
-        flag(c1.brake),
-        flag(c1.belt),
-        flag(c1.expiring),
-        flag(c2.park),
-        flag(c2.idle),
-        flag(c2.brake),
-        flag(c2.belt),
-        flag(c2.expiring),
-        flag(is_sent(standing)),
-    ]
+    let running = is_running(f);
+    let sent = is_sent(standing);
+    flags_by(running, sent, s)
 }
 
 pub(crate) fn standing_bytes(n: Notice) -> [u8; 32]
@@ -111,15 +79,36 @@ pub(crate) fn standing_bytes(n: Notice) -> [u8; 32]
     }
 }
 
-// Writes the words to the start of `out`, four bytes each.
-pub(crate) fn put_words(words: &[u32], out: &mut [u8])
-    requires { ⌜ 4 * length (now words) ≤ length (now out) ⌝ }
-    ensures { λ r. ⌜ now (out .exit) ≡ splice (now (out .entry)) 0 (wordBytes (now (words .entry))) ⌝ }
+// The numbers that stand before the runs.
+pub(crate) fn numbers_of(s: State) -> [u32; NUMBERS]
+    ensures { λ r. ⌜ r ≡ take numberCount (wordsOf s) ⌝ }
+{
+    let f = s.filter;
+    let c1 = s.stoppedcycle;
+    let c2 = s.brokendowncycle;
+    let l = s.log;
+    let bits = filter_bits(f);
+    [
+        s.taken,
+        bits,
+        c1.ticks,
+        c2.ticks,
+        l.started,
+        l.counted,
+        l.lastcancel,
+        l.events,
+    ]
+}
+
+// Writes the words from place `at` on, four bytes each.
+pub(crate) fn put_words(out: &mut [u8], at: usize, words: &[u32])
+    requires { ⌜ at + 4 * length (now words) ≤ length (now out) ⌝ }
+    ensures { λ r. ⌜ now (out .exit) ≡ splice (now (out .entry)) at (wordBytes (now (words .entry))) ⌝ }
 {
     let mut i = 0;
     while i < words.len() {
         let bytes = wire::bytes32(words[i]);
-        wire::copy_at(out, 4 * i, &bytes);
+        wire::copy_at(out, at + 4 * i, &bytes);
         i += 1;
     }
 }

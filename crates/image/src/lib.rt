@@ -1,48 +1,90 @@
-// The engine as an image of 129 bytes, so that a unit can keep it over a restart.
+// The engine as an image of `BYTES` bytes, so that a unit can keep it over a restart.
 mod decoding;
 mod encoding;
 
+ghost use mathlib.Core.Path.{_≡_};
 ghost use Rattle.image.specs.Image.{Saved, Loaded};
 use engine::Engine;
+use history::RUNS;
 
-// What loading finds: the engine, or the number that refuses the image.
-pub enum Loading {
-    Accepted(Engine),
-    Refused(u8),
+// The first byte of an image. Every change of what an image holds raises it, so that no image of other software is misread.
+const LAYOUT: u8 = 1;
+
+// Yes or no, by their places: whether the filter is running, ignition, five marks of each cycle, whether a warning stands.
+const STOPPED_MARKS: usize = 2;
+
+const BROKEN_DOWN_MARKS: usize = STOPPED_MARKS + 5;
+
+const SENT: usize = BROKEN_DOWN_MARKS + 5;
+
+const FLAGS: usize = SENT + 1;
+
+// The numbers before the runs.
+const NUMBERS: usize = 8;
+
+// The parts of an image, one behind the other: yes or no, the standing warning's record, the numbers, the runs.
+const FLAGS_AT: usize = 1;
+
+const STANDING_AT: usize = FLAGS_AT + FLAGS;
+
+const WORDS_AT: usize = STANDING_AT + 32;
+
+const RUNS_AT: usize = WORDS_AT + 4 * NUMBERS;
+
+pub const BYTES: usize = RUNS_AT + 4 * RUNS;
+
+// What loading finds: the engine, and the number that refuses the image, 0 for an accepted one. With a refusal the engine is a fresh one.
+pub struct Loading {
+    pub engine: Engine,
+    pub fault: u8,
 }
 
-pub fn save(e: Engine) -> [u8; 129]
+fn refusal() -> Loading
+    ensures { λ r. ⌜ r .fault ≡ 21 ⌝ }
+{
+    Loading {
+        engine: Engine::fresh(),
+        fault: 21,
+    }
+}
+
+pub fn save(e: Engine) -> [u8; BYTES]
     ensures { λ r. ⌜ Saved e r ⌝ }
 {
     let state = e.state;
     let log = state.log;
     let standing = log.standing;
-    let words = encoding::words_of(state);
+    let runs = state.runs;
     let flags = encoding::flags_of(state);
     let record = encoding::standing_bytes(standing);
-    let mut image = [0u8; 129];
-    encoding::put_words(&words, &mut image);
-    wire::copy_at(&mut image, 84, &flags);
-    wire::copy_at(&mut image, 97, &record);
+    let numbers = encoding::numbers_of(state);
+    let mut image = [0u8; BYTES];
+    image[0] = LAYOUT;
+    wire::copy_at(&mut image, FLAGS_AT, &flags);
+    wire::copy_at(&mut image, STANDING_AT, &record);
+    encoding::put_words(&mut image, WORDS_AT, &numbers);
+    encoding::put_words(&mut image, RUNS_AT, &runs);
     image
 }
 
-// An image is accepted if saving its engine again makes the same bytes, and refusal 21 lets that engine pass.
+// An image is accepted if it has this layout, saving its engine again makes the same bytes, and refusal 21 lets that engine pass.
 pub fn load(image: &[u8]) -> Loading
     ensures { λ r. ⌜ Loaded (now (image .entry)) r ⌝ }
 {
-    if image.len() != 129 {
-        return Loading::Refused(21);
+    if image.len() != BYTES {
+        return refusal();
+    }
+    if image[0] != LAYOUT {
+        return refusal();
     }
     let state = decoding::state_in(image);
     if !ranges::state_in_range(state) {
-        return Loading::Refused(21);
+        return refusal();
     }
     let engine = Engine { state };
     let again = save(engine);
-    if decoding::same(&again, image) {
-        Loading::Accepted(engine)
-    } else {
-        Loading::Refused(21)
+    if !decoding::same(&again, image) {
+        return refusal();
     }
+    Loading { engine, fault: 0 }
 }

@@ -6,24 +6,24 @@ use lib.Dec.{T, leb, eqb, leb→le, le→leb}
 use lib.ListN.{getD}
 use Rattle.wire.proofs.Tests.{holds-at, holds-all}
 use Rattle.sample.specs.Sample.{beyond}
-use Rattle.message.specs.Warnings.{validityOf}
+use Rattle.message.specs.Warnings.{cancel, warningCount, rowOf, validityOf}
 use Rattle.message.specs.Message.{fieldTests, admits}
 use Rattle.message.specs.declared.Message.{Message}
 
 pub record Admitted (m : Message) : Type 0 where
   pub kind-low : 1 ≤ m .kind
-  pub kind-high : m .kind ≤ 3
+  pub kind-high : m .kind ≤ rowOf (m .warning) .kinds
   pub warning-low : 1 ≤ m .warning
-  pub warning-high : m .warning ≤ 3
+  pub warning-high : m .warning ≤ warningCount
   pub quality-low : 1 ≤ m .quality
-  pub quality-high : m .quality ≤ 3
+  pub quality-high : m .quality ≤ rowOf (m .warning) .qualities
   pub roadtype : T (leb (m .roadtype) 3 || eqb (m .roadtype) 255)
   pub since : m .since ≤ 3
   pub event-low : 1 ≤ m .event
   pub event-high : m .event ≤ 10000000
   pub reference : m .reference ≤ 9999999
   pub detection : m .detection ≤ m .reference
-  pub instant : T (eqb (m .kind) 3 || eqb (m .detection) (m .reference))
+  pub instant : T (eqb (m .kind) cancel || eqb (m .detection) (m .reference))
   pub position : T (not (beyond (m .position)))
   pub heading : m .heading ≤ 3601
   pub validity : T (eqb (m .validity) (validityOf (m .warning) true) || eqb (m .validity) (validityOf (m .warning) false))

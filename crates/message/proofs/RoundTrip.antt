@@ -3,7 +3,7 @@
 use mathlib.Core.Path.{_≡_, refl, sym, ap, _∙_}
 use mathlib.Core.Bool.{Bool, true, false, not, _||_, _&&_}
 use mathlib.Core.List.{List, [], _∷_, _++_}
-use Prim.Native.Nat.{ℕ, zero, suc, _^_, _<_}
+use Prim.Native.Nat.{ℕ, suc, _^_, _<_}
 use native.Mathlib.Omega.{arith}
 use borrow.Author.Tests.{eq-eqb, eqb-true, not-false}
 use lib.Dec.{T, eqb, eqb→eq, nltb→le}
@@ -29,6 +29,7 @@ use Rattle.message.specs.Warnings.{rowOf, directionOf, validityOf}
 use Rattle.message.specs.Message.{encode, messageOf, derivedFit, admits, messageRead, reading, writeFault, Found, Written}
 use Rattle.message.specs.declared.Message.{Message}
 use Rattle.message.specs.declared.Reading.{Reading}
+use Rattle.message.proofs.Table.{validity-below}
 use Rattle.message.proofs.Admitted.{admitted}
 
 -- ---- written, then read
@@ -59,15 +60,6 @@ either-small v a b h k t = go (eqb v a) (eqb v b) refl refl t
     go true y e f u = let g = eqb-true v a e in omega arith
     go false true e f u = let g = eqb-true v b f in omega arith
     go false false e f u = absurd u
-
-validity-below : (w : ℕ) (on : Bool) → validityOf w on < 256
-unfolding validityOf
-validity-below zero on = omega arith
-validity-below (suc zero) on = omega arith
-validity-below (suc (suc zero)) true = omega arith
-validity-below (suc (suc zero)) false = omega arith
-validity-below (suc (suc (suc zero))) on = omega arith
-validity-below (suc (suc (suc (suc n)))) on = omega arith
 
 -- the fields, each from what its bytes are read as
 fields-made : (m : Message) (event detection reference heading validity : ℕ) (position : Position)

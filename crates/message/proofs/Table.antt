@@ -1,96 +1,231 @@
--- The table per warning: its rule, proved over all rows by one computed test.
+-- The table per warning: its rule, proved over all rows by one computed test, and its laws by each warning in turn and for every other number.
 -- Assumes nothing.
-use mathlib.Core.Path.{_≡_, refl, sym, subst, ap, _∙_}
-use mathlib.Core.Bool.{Bool, true, _&&_}
-use mathlib.Core.List.{List, [], _∷_}
+use mathlib.Core.Path.{_≡_, refl, sym}
+use mathlib.Core.Logic.{inl, inr}
+use mathlib.Core.Bool.{Bool, true, false, _&&_, _||_}
+use mathlib.Core.List.{List, [], _∷_, List·Memᴰ, List·Memᴰ·not-nil, List·Memᴰ·cases-cons}
+use mathlib.Core.List.List·Memᴰ.{List·Memᴰ·head, List·Memᴰ·tail}
 use Prim.Native.Nat.{ℕ, zero, suc, _+_, _-_, _≤_, _<_}
-use native.Mathlib.Nat.{add-zero, zero-add, add-suc, suc-add, le-of-suc-le-suc, not-suc-le-zero}
 use native.Mathlib.Omega.{arith}
-use lib.Dec.{T, eqb, eqb→eq}
+use borrow.Author.Tests.{eqb-true, eqb-false}
+use lib.Dec.{T, ltb, eqb, ltb→lt, eqb→eq}
 use lib.Ieee.Fits.{and-l, and-r}
-use lib.ListN.{length, getD}
-use Rattle.message.specs.Warnings.{byWarning, rowOf}
+use lib.ListN.{length, getD, List·getD-eq-default}
+use Rattle.wire.specs.Tests.{allHold}
+use Rattle.wire.proofs.Tests.{holds-at}
+use Rattle.message.specs.Warnings.{warningCount, byRank, byWarning, rowOf, validityOf}
 use Rattle.message.specs.declared.Row.{Row}
 
--- a test f passes at each entry of a table and its place, counted from i
-abbrev pub every : {A : Type 0} → (ℕ → A → Bool) → ℕ → List A → Bool
-every f i [] = true
-every f i (x ∷ xs) = f i x && every f (suc i) xs
+-- ---- the warnings, one by one
 
-every-from : {A : Type 0} (f : ℕ → A → Bool) (xs : List A) (d : A) (i : ℕ) → T (every f i xs)
-    → (k : ℕ) → k < length xs → T (f (i + k) (getD xs k d))
-every-from f [] d i t k h = absurd (not-suc-le-zero h)
-every-from f (x ∷ xs) d i t zero h = subst (λ (m : ℕ). T (f m x)) (sym (add-zero i)) (and-l (f i x) (every f (suc i) xs) t)
-every-from f (x ∷ xs) d i t (suc k) h =
-    subst (λ (m : ℕ). T (f m (getD xs k d))) (suc-add i k ∙ sym (add-suc i k))
-    (every-from f xs d (suc i) (and-r (f i x) (every f (suc i) xs) t) k (le-of-suc-le-suc h))
+-- a test passes for each number from 1 to n
+abbrev pub upTo : (ℕ → Bool) → ℕ → Bool
+upTo f zero = true
+upTo f (suc n) = upTo f n && f (suc n)
 
--- so it passes at the entry of any place
-pub every-at : {A : Type 0} (f : ℕ → A → Bool) (xs : List A) (d : A) → T (every f 0 xs)
-    → (k : ℕ) → k < length xs → T (f k (getD xs k d))
-every-at f xs d t k h = subst (λ (m : ℕ). T (f m (getD xs k d))) (zero-add k) (every-from f xs d 0 t k h)
+up-to-at : (f : ℕ → Bool) (n : ℕ) → T (upTo f n) → (w : ℕ) → 1 ≤ w → w ≤ n → T (f w)
+up-to-at f zero t w low high = absurd (omega arith)
+up-to-at f (suc n) t w low high = go (eqb w (suc n)) refl (up-to-at f n (and-l (upTo f n) (f (suc n)) t) w low)
+  where
+    go : (b : Bool) → eqb w (suc n) ≡ b → (w ≤ n → T (f w)) → T (f w)
+    go true e before = rw (eqb-true w (suc n) e) (and-r (upTo f n) (f (suc n)) t)
+    go false e before = let other = eqb-false w (suc n) e in before (omega (arith, other))
+
+-- a test that is computed for each warning is passed by any
+pub each-passes : (f : ℕ → Bool) → T (upTo f warningCount) → (w : ℕ) → 1 ≤ w → w ≤ warningCount → T (f w)
+each-passes f t w low high = up-to-at f warningCount t w low high
+
+-- what holds of each warning holds of any
+pub each-warning : (P : ℕ → Type 0) → P 1 → P 2 → P 3 → (w : ℕ) → 1 ≤ w → w ≤ warningCount → P w
+each-warning P a b c zero low high = absurd (omega arith)
+each-warning P a b c (suc zero) low high = a
+each-warning P a b c (suc (suc zero)) low high = b
+each-warning P a b c (suc (suc (suc zero))) low high = c
+each-warning P a b c (suc (suc (suc (suc n)))) low high = absurd (omega arith)
+
+-- ---- a column
+
+-- a number that is no warning has 0
+pub no-warning : (column : List ℕ) (w : ℕ) → (1 ≤ w → length column < w) → byWarning column w ≡ 0
+no-warning column zero h = refl
+no-warning column (suc w) h = let l = h (omega arith) in List·getD-eq-default column 0 {n = w} (omega arith)
+
+-- a test that each entry of a list passes
+abbrev pub every : (ℕ → Bool) → List ℕ → Bool
+every f [] = true
+every f (x ∷ xs) = f x && every f xs
+
+at-any : (f : ℕ → Bool) (xs : List ℕ) (k : ℕ) → T (f 0) → T (every f xs) → T (f (getD xs k 0))
+at-any f [] k z t = z
+at-any f (x ∷ xs) zero z t = and-l (f x) (every f xs) t
+at-any f (x ∷ xs) (suc k) z t = at-any f xs k z (and-r (f x) (every f xs) t)
+
+-- a test that 0 and each entry of a column pass is passed at every number
+pub any-number : (f : ℕ → Bool) (column : List ℕ) (w : ℕ) → T (every f (0 ∷ column)) → T (f (byWarning column w))
+any-number f column w t = at-any f (0 ∷ column) w (and-l (f 0) (every f column) t) t
+
+-- ---- the rows
 
 -- the table, as the code has it
 unfoldable pub rows : List Row
 rows =
-    record { cause = 94; subcause = 0; relevance = 4; trafficclass = 1; period = 150; delay = 50 }
-    ∷ record { cause = 94; subcause = 2; relevance = 4; trafficclass = 1; period = 150; delay = 50 }
-    ∷ record { cause = 94; subcause = 3; relevance = 4; trafficclass = 1; period = 600; delay = 150 }
+    record {
+      cause = 94;
+      subcause = 0;
+      relevance = 4;
+      trafficclass = 1;
+      rank = 1;
+      kinds = 3;
+      qualities = 3;
+      period = 150;
+      delay = 50;
+      validityon = 30;
+      validityoff = 30;
+    }
+    ∷ record {
+      cause = 94;
+      subcause = 2;
+      relevance = 4;
+      trafficclass = 1;
+      rank = 2;
+      kinds = 3;
+      qualities = 3;
+      period = 150;
+      delay = 50;
+      validityon = 30;
+      validityoff = 180;
+    }
+    ∷ record {
+      cause = 94;
+      subcause = 3;
+      relevance = 4;
+      trafficclass = 1;
+      rank = 3;
+      kinds = 3;
+      qualities = 3;
+      period = 600;
+      delay = 150;
+      validityon = 180;
+      validityoff = 180;
+    }
     ∷ []
 
 abbrev pub noRow : Row
-noRow = record { cause = 0; subcause = 0; relevance = 0; trafficclass = 0; period = 0; delay = 0 }
+noRow = record {
+  cause = 0;
+  subcause = 0;
+  relevance = 0;
+  trafficclass = 0;
+  rank = 0;
+  kinds = 0;
+  qualities = 0;
+  period = 0;
+  delay = 0;
+  validityon = 0;
+  validityoff = 0;
+}
 
 -- two rows are equal, column by column
-sameRow : Row → Row → Bool
-sameRow a b =
+abbrev columnTests : Row → Row → List Bool
+columnTests a b =
     eqb (a .cause) (b .cause)
-    && (eqb (a .subcause) (b .subcause)
-    && (eqb (a .relevance) (b .relevance)
-    && (eqb (a .trafficclass) (b .trafficclass) && (eqb (a .period) (b .period) && eqb (a .delay) (b .delay)))))
+    ∷ eqb (a .subcause) (b .subcause)
+    ∷ eqb (a .relevance) (b .relevance)
+    ∷ eqb (a .trafficclass) (b .trafficclass)
+    ∷ eqb (a .rank) (b .rank)
+    ∷ eqb (a .kinds) (b .kinds)
+    ∷ eqb (a .qualities) (b .qualities)
+    ∷ eqb (a .period) (b .period)
+    ∷ eqb (a .delay) (b .delay)
+    ∷ eqb (a .validityon) (b .validityon)
+    ∷ eqb (a .validityoff) (b .validityoff)
+    ∷ []
+
+sameRow : Row → Row → Bool
+sameRow a b = allHold (columnTests a b)
 
 same-row : (a b : Row) → T (sameRow a b) → a ≡ b
 unfolding sameRow
 same-row a b t =
-    let t₁ = and-r (eqb (a .cause) (b .cause)) _ t in
-    let t₂ = and-r (eqb (a .subcause) (b .subcause)) _ t₁ in
-    let t₃ = and-r (eqb (a .relevance) (b .relevance)) _ t₂ in
-    let t₄ = and-r (eqb (a .trafficclass) (b .trafficclass)) _ t₃ in
-    let e₀ = eqb→eq (a .cause) (b .cause) (and-l (eqb (a .cause) (b .cause)) _ t) in
-    let e₁ = eqb→eq (a .subcause) (b .subcause) (and-l (eqb (a .subcause) (b .subcause)) _ t₁) in
-    let e₂ = eqb→eq (a .relevance) (b .relevance) (and-l (eqb (a .relevance) (b .relevance)) _ t₂) in
-    let e₃ = eqb→eq (a .trafficclass) (b .trafficclass) (and-l (eqb (a .trafficclass) (b .trafficclass)) _ t₃) in
-    let e₄ = eqb→eq (a .period) (b .period) (and-l (eqb (a .period) (b .period)) _ t₄) in
-    let e₅ = eqb→eq (a .delay) (b .delay) (and-r (eqb (a .period) (b .period)) _ t₄) in
+    let at : (k : ℕ) → T (getD (columnTests a b) k true) = holds-at (columnTests a b) t in
+    let e₀ = eqb→eq (a .cause) (b .cause) (at 0) in
+    let e₁ = eqb→eq (a .subcause) (b .subcause) (at 1) in
+    let e₂ = eqb→eq (a .relevance) (b .relevance) (at 2) in
+    let e₃ = eqb→eq (a .trafficclass) (b .trafficclass) (at 3) in
+    let e₄ = eqb→eq (a .rank) (b .rank) (at 4) in
+    let e₅ = eqb→eq (a .kinds) (b .kinds) (at 5) in
+    let e₆ = eqb→eq (a .qualities) (b .qualities) (at 6) in
+    let e₇ = eqb→eq (a .period) (b .period) (at 7) in
+    let e₈ = eqb→eq (a .delay) (b .delay) (at 8) in
+    let e₉ = eqb→eq (a .validityon) (b .validityon) (at 9) in
+    let e₁₀ = eqb→eq (a .validityoff) (b .validityoff) (at 10) in
     let e : _≡_ {A = Row} (record {
       cause = a .cause;
       subcause = a .subcause;
       relevance = a .relevance;
       trafficclass = a .trafficclass;
+      rank = a .rank;
+      kinds = a .kinds;
+      qualities = a .qualities;
       period = a .period;
       delay = a .delay;
-    }) b = simp (e₀, e₁, e₂, e₃, e₄, e₅) in
+      validityon = a .validityon;
+      validityoff = a .validityoff;
+    }) b = simp (e₀, e₁, e₂, e₃, e₄, e₅, e₆, e₇, e₈, e₉, e₁₀) in
     e
 
 -- the rule: row w - 1 is that of warning w
-pub row-of-warning : (w : ℕ) → 1 ≤ w → w ≤ 3 → getD rows (w - 1) noRow ≡ rowOf w
-unfolding rows rowOf sameRow
+pub row-of-warning : (w : ℕ) → 1 ≤ w → w ≤ warningCount → getD rows (w - 1) noRow ≡ rowOf w
+unfolding rows rowOf sameRow allHold
 row-of-warning w low high =
-    let e : w - 1 + 1 ≡ w = omega arith in
-    same-row (getD rows (w - 1) noRow) (rowOf (w - 1 + 1))
-    (every-at (λ (k : ℕ) (r : Row). sameRow r (rowOf (k + 1))) rows noRow tt (w - 1) (omega arith))
-    ∙ ap rowOf e
+    same-row (getD rows (w - 1) noRow) (rowOf w) (each-passes (λ k. sameRow (getD rows (k - 1) noRow) (rowOf k)) tt w low high)
 
--- a number that is no warning has zeros
-pub no-warning : (a b d w : ℕ) → (w ≡ 1 → ⊥) → (w ≡ 2 → ⊥) → (w ≡ 3 → ⊥) → byWarning a b d w ≡ 0
-no-warning a b d zero h i j = refl
-no-warning a b d (suc zero) h i j = absurd (h refl)
-no-warning a b d (suc (suc zero)) h i j = absurd (i refl)
-no-warning a b d (suc (suc (suc zero))) h i j = absurd (j refl)
-no-warning a b d (suc (suc (suc (suc n)))) h i j = refl
-
-pub no-row : (w : ℕ) → (w ≡ 1 → ⊥) → (w ≡ 2 → ⊥) → (w ≡ 3 → ⊥) → noRow ≡ rowOf w
+-- the row of a number that is no warning
+pub no-row : (w : ℕ) → (1 ≤ w → warningCount < w) → noRow ≡ rowOf w
 unfolding rowOf
-no-row w h i j =
-    let z : (a b d : ℕ) → byWarning a b d w ≡ 0 = λ a b d. no-warning a b d w h i j in
-    sym (simp (z 94 94 94, z 0 2 3, z 4 4 4, z 1 1 1, z 150 150 600, z 50 50 150))
+no-row w h =
+    let z : (a b c : ℕ) → byWarning (a ∷ b ∷ c ∷ []) w ≡ 0 = λ a b c. no-warning (a ∷ b ∷ c ∷ []) w h in
+    sym (simp z)
+
+-- every validity is a byte
+pub validity-below : (w : ℕ) (ignition : Bool) → validityOf w ignition < 256
+unfolding validityOf rowOf
+validity-below w true = ltb→lt _ _ (any-number (λ n. ltb n 256) (30 ∷ 30 ∷ 180 ∷ []) w tt)
+validity-below w false = ltb→lt _ _ (any-number (λ n. ltb n 256) (30 ∷ 180 ∷ 180 ∷ []) w tt)
+
+-- ---- the warnings by rank
+
+-- the ranks fall strictly along the list, and the first is below r
+abbrev pub falling : ℕ → List ℕ → Bool
+falling r [] = true
+falling r (w ∷ ws) = ltb (rowOf w .rank) r && falling (rowOf w .rank) ws
+
+-- so each rank of the list is below r
+pub falling-below : (r : ℕ) (ws : List ℕ) → T (falling r ws) → (w : ℕ) → List·Memᴰ w ws → rowOf w .rank < r
+falling-below r [] t w i = absurd (List·Memᴰ·not-nil i)
+falling-below r (u ∷ ws) t w i =
+    let first = ltb→lt (rowOf u .rank) r (and-l (ltb (rowOf u .rank) r) (falling (rowOf u .rank) ws) t) in
+    let rest = falling-below (rowOf u .rank) ws (and-r (ltb (rowOf u .rank) r) (falling (rowOf u .rank) ws) t) w in
+    elim (List·Memᴰ·cases-cons i) [ inl e ↦ rw e first | inr j ↦ omega (arith, first, rest j) ]
+
+among : ℕ → List ℕ → Bool
+among w [] = false
+among w (u ∷ ws) = eqb w u || among w ws
+
+among-them : (w : ℕ) (ws : List ℕ) → T (among w ws) → List·Memᴰ w ws
+unfolding among
+among-them w [] t = absurd t
+among-them w (u ∷ ws) t = go (eqb w u) refl t (among-them w ws)
+  where
+    go : (b : Bool) → eqb w u ≡ b → T (b || among w ws) → (T (among w ws) → List·Memᴰ w ws) → List·Memᴰ w (u ∷ ws)
+    go true e t rest = List·Memᴰ·head (eqb-true w u e)
+    go false e t rest = List·Memᴰ·tail (rest t)
+
+-- the rule of the list: its ranks fall strictly, and each warning is in it
+pub by-rank-falls : T (falling (warningCount + 1) byRank)
+unfolding rowOf
+by-rank-falls = tt
+
+pub by-rank-has : (w : ℕ) → 1 ≤ w → w ≤ warningCount → List·Memᴰ w byRank
+unfolding among
+by-rank-has w low high = among-them w byRank (each-passes (λ k. among k byRank) tt w low high)

@@ -19,10 +19,21 @@ use Rattle.message.specs.Message.{encode, messageOf, messageRead, readin
 
 -- ---- the table
 
--- cause, sub cause, relevance distance code, traffic class, update period, cancel delay
-abbrev pub row : ℕ → ℕ → ℕ → ℕ → ℕ → ℕ → Row
-row cause subcause relevance trafficclass period delay =
-    record { cause = cause; subcause = subcause; relevance = relevance; trafficclass = trafficclass; period = period; delay = delay }
+-- cause, sub cause, relevance distance code, traffic class, rank, highest kind, greatest quality, update period, cancel delay, validity with ignition on and off
+abbrev pub row : ℕ → ℕ → ℕ → ℕ → ℕ → ℕ → ℕ → ℕ → ℕ → ℕ → ℕ → Row
+row cause subcause relevance trafficclass rank kinds qualities period delay validityon validityoff = record {
+  cause = cause;
+  subcause = subcause;
+  relevance = relevance;
+  trafficclass = trafficclass;
+  rank = rank;
+  kinds = kinds;
+  qualities = qualities;
+  period = period;
+  delay = delay;
+  validityon = validityon;
+  validityoff = validityoff;
+}
 
 -- the warnings, and on each side a number that is none
 abbrev pub zeroToFour : List ℕ
@@ -117,9 +128,14 @@ abbrev pub ofQuality : ℕ → Message
 ofQuality quality = message 1 1 quality 0 0 1 2 2 (pos 3) (pos 4) 5 30
 
 pub record MessageExamples : Type 0 where
-  -- "2 sub cause 0, 2, 3 for warnings 1, 2, 3; 3 cause 94", "Relevance distance code 4, traffic class 1.", "150 ticks (warning 3: 600, U)", "i-50 to i (warning 3: i-150 to i, U)"
+  -- "2 sub cause 0, 2, 3 for warnings 1, 2, 3; 3 cause 94", "Relevance distance code 4, traffic class 1.", "a higher number outranks", "150 ticks (warning 3: 600, U)", "i-50 to i (warning 3: i-150 to i, U)", "warning 1: 30; 2: 30 with ignition on, else 180 (U); 3: 180 (U)"
   pub rows : map rowOf zeroToFour
-      ≡ row 0 0 0 0 0 0 ∷ row 94 0 4 1 150 50 ∷ row 94 2 4 1 150 50 ∷ row 94 3 4 1 600 150 ∷ row 0 0 0 0 0 0 ∷ []
+      ≡ row 0 0 0 0 0 0 0 0 0 0 0
+      ∷ row 94 0 4 1 1 3 3 150 50 30 30
+      ∷ row 94 2 4 1 2 3 3 150 50 30 180
+      ∷ row 94 3 4 1 3 3 3 600 150 180 180
+      ∷ row 0 0 0 0 0 0 0 0 0 0 0
+      ∷ []
   -- "Validity: warning 1: 30; 2: 30 with ignition on, else 180 (U); 3: 180 (U)."
   pub validity-on : map (λ w. validityOf w true) zeroToFour ≡ 0 ∷ 30 ∷ 30 ∷ 180 ∷ 0 ∷ []
   pub validity-off : map (λ w. validityOf w false) zeroToFour ≡ 0 ∷ 30 ∷ 180 ∷ 180 ∷ 0 ∷ []

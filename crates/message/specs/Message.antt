@@ -15,7 +15,7 @@ use Rattle.wire.specs.declared.Answer.the-variants.{Given}
 use Rattle.wire.specs.Memory.{memory}
 use Rattle.wire.specs.Outcome.{check, firstFault, Outcome, accepted, refused, outcome, answered}
 use Rattle.sample.specs.Sample.{beyond}
-use Rattle.message.specs.Warnings.{rowOf, validityOf, directionOf}
+use Rattle.message.specs.Warnings.{new, cancel, warningCount, rowOf, validityOf, directionOf}
 use Rattle.message.specs.declared.Message.{Message}
 use Rattle.message.specs.declared.Reading.{Reading}
 use Rattle.message.specs.declared.Reading.the-variants.{Accepted, Refused}
@@ -69,12 +69,12 @@ derivedFit s =
 unfoldable pub fieldTests : Message → List Bool
 fieldTests m =
     -- "0 kind (1 New, 2 Update, 3 Cancel); 1 warning", and the values of "Quality"
-    leb 1 (m .kind)
-    ∷ leb (m .kind) 3
+    leb new (m .kind)
+    ∷ leb (m .kind) (rowOf (m .warning) .kinds)
     ∷ leb 1 (m .warning)
-    ∷ leb (m .warning) 3
+    ∷ leb (m .warning) warningCount
     ∷ leb 1 (m .quality)
-    ∷ leb (m .quality) 3
+    ∷ leb (m .quality) (rowOf (m .warning) .qualities)
     -- "roadType: 0 .., 1 .., 2 .., 3 .., and 255 (omitted)"
     ∷ (leb (m .roadtype) 3 || eqb (m .roadtype) 255)
     -- "stationarySince: .. 0 .., 1 .., 2 .., else 3"
@@ -85,7 +85,7 @@ fieldTests m =
     ∷ leb (m .reference) 9999999
     -- "detection above reference, or below it unless Cancel"
     ∷ leb (m .detection) (m .reference)
-    ∷ (eqb (m .kind) 3 || eqb (m .detection) (m .reference))
+    ∷ (eqb (m .kind) cancel || eqb (m .detection) (m .reference))
     -- "8 east or north beyond ±1,000,000", "7 heading over 3,601"
     ∷ not (beyond (m .position))
     ∷ leb (m .heading) 3601

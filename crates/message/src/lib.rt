@@ -6,6 +6,25 @@ ghost use Rattle.message.specs.Message.{messageOf, encode, admits, deriv
 use sample::Position;
 use wire::Answer;
 
+// The kinds of a message.
+pub const NEW: u8 = 1;
+
+pub const UPDATE: u8 = 2;
+
+pub const CANCEL: u8 = 3;
+
+// The warnings, which are the numbers from 1 to the count of them.
+pub const STOPPED: u8 = 1;
+
+pub const BROKEN_DOWN: u8 = 2;
+
+pub const POST_CRASH: u8 = 3;
+
+pub const WARNINGS: u8 = 3;
+
+// The warnings, the highest rank first.
+pub const BY_RANK: [u8; WARNINGS as usize] = [POST_CRASH, BROKEN_DOWN, STOPPED];
+
 // The record's own numbers; sub cause, cause and direction follow from the warning and the road type.
 pub struct Message {
     pub kind: u8,
@@ -27,40 +46,61 @@ pub enum Reading {
     Refused(u8),
 }
 
-// What is constant for a warning: for the record, for the sender, and in ticks for the engine.
+// What is constant for a warning: for the record and for the sender, its rank, the highest kind and the greatest quality
+// that refusal 14 admits, ticks for the engine, and seconds of validity with ignition on and off.
 pub struct Row {
     pub cause: u8,
     pub subcause: u8,
     pub relevance: u8,
     pub trafficclass: u8,
+    pub rank: u8,
+    pub kinds: u8,
+    pub qualities: u8,
     pub period: u32,
     pub delay: u32,
+    pub validityon: u16,
+    pub validityoff: u16,
 }
 
-const ROWS: [Row; 3] = [
+const ROWS: [Row; WARNINGS as usize] = [
     Row {
         cause: 94,
         subcause: 0,
         relevance: 4,
         trafficclass: 1,
+        rank: 1,
+        kinds: CANCEL,
+        qualities: 3,
         period: 150,
         delay: 50,
+        validityon: 30,
+        validityoff: 30,
     },
     Row {
         cause: 94,
         subcause: 2,
         relevance: 4,
         trafficclass: 1,
+        rank: 2,
+        kinds: CANCEL,
+        qualities: 3,
         period: 150,
         delay: 50,
+        validityon: 30,
+        validityoff: 180,
     },
     Row {
         cause: 94,
         subcause: 3,
         relevance: 4,
         trafficclass: 1,
+        rank: 3,
+        kinds: CANCEL,
+        qualities: 3,
         period: 600,
         delay: 150,
+        validityon: 180,
+        validityoff: 180,
     },
 ];
 
@@ -169,7 +209,7 @@ pub fn row_of(warning: u8) -> Row
     ensures { λ r. ⌜ r ≡ rowOf warning ⌝ }
 {
     match warning {
-        1 | 2 | 3 => {
+        1..=WARNINGS => {
             let i = (warning - 1) as usize;
             ROWS[i]
         }
@@ -178,8 +218,13 @@ pub fn row_of(warning: u8) -> Row
             subcause: 0,
             relevance: 0,
             trafficclass: 0,
+            rank: 0,
+            kinds: 0,
+            qualities: 0,
             period: 0,
             delay: 0,
+            validityon: 0,
+            validityoff: 0,
         },
     }
 }
@@ -188,11 +233,11 @@ pub fn row_of(warning: u8) -> Row
 pub fn validity_of(warning: u8, ignition: bool) -> u16
     ensures { λ r. ⌜ r ≡ validityOf warning ignition ⌝ }
 {
-    match warning {
-        1 => 30,
-        2 => { if ignition { 30 } else { 180 } }
-        3 => 180,
-        _ => 0,
+    let row = row_of(warning);
+    if ignition {
+        row.validityon
+    } else {
+        row.validityoff
     }
 }
 
@@ -223,24 +268,23 @@ impl Message {
         ensures { λ r. ⌜ r ≡ admits self ⌝ }
     {
         let p = self.position;
-        let on = validity_of(self.warning, true);
-        let off = validity_of(self.warning, false);
-        (1 <= self.kind)
-            & (self.kind <= 3)
+        let row = row_of(self.warning);
+        (NEW <= self.kind)
+            & (self.kind <= row.kinds)
             & (1 <= self.warning)
-            & (self.warning <= 3)
+            & (self.warning <= WARNINGS)
             & (1 <= self.quality)
-            & (self.quality <= 3)
+            & (self.quality <= row.qualities)
             & ((self.roadtype <= 3) | (self.roadtype == 255))
             & (self.since <= 3)
             & (1 <= self.event)
             & (self.event <= 10000000)
             & (self.reference <= 9999999)
             & (self.detection <= self.reference)
-            & ((self.kind == 3) | (self.detection == self.reference))
+            & ((self.kind == CANCEL) | (self.detection == self.reference))
             & !p.beyond_limit()
             & (self.heading <= 3601)
-            & ((self.validity == on) | (self.validity == off))
+            & ((self.validity == row.validityon) | (self.validity == row.validityoff))
     }
 }
 

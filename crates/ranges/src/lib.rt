@@ -1,7 +1,8 @@
 // The ranges of refusal 21.
 ghost use mathlib.Core.Path.{_≡_};
-ghost use Rattle.history.specs.Ranges.{standingInRange, stateInRange};
+ghost use Rattle.history.specs.Ranges.{standingInRange, within, stateInRange};
 use history::Notice;
+use history::RUNS;
 use history::State;
 
 fn standing_in_range(n: u32, standing: Notice) -> bool
@@ -13,38 +14,37 @@ fn standing_in_range(n: u32, standing: Notice) -> bool
     }
 }
 
+fn runs_within(n: u32, runs: [u32; RUNS]) -> bool
+    ensures { λ r. ⌜ r ≡ within n runs ⌝ }
+{
+    let mut all = true;
+    let mut i = 0;
+    while i < RUNS {
+        all = all & (runs[i] <= n);
+        i += 1;
+    }
+    all
+}
+
 // Whether refusal 21 lets a state pass.
 pub fn state_in_range(s: State) -> bool
     ensures { λ r. ⌜ r ≡ stateInRange s ⌝ }
 {
     let n = s.taken;
     let f = s.filter;
-    let r = s.runs;
-    let c1 = s.first;
-    let c2 = s.second;
-    let a = s.absent;
+    let c1 = s.stoppedcycle;
+    let c2 = s.brokendowncycle;
     let l = s.log;
     let standing = l.standing;
+    let runs = s.runs;
     (n <= 10000000)
         & f.in_range()
-        & (s.stationary <= n)
-        & (s.moving <= n)
-        & (r.park <= n)
-        & (r.idle <= n)
-        & (r.brake <= n)
-        & (r.beltoff <= n)
-        & (r.ignitionoff <= n)
-        & (r.door <= n)
-        & (r.boot <= n)
-        & (r.bonnet <= n)
+        & standing_in_range(n, standing)
         & (c1.ticks <= n)
         & (c2.ticks <= n)
-        & (a.ecall <= n)
-        & (a.low <= n)
-        & (a.high <= n)
         & (l.started <= n)
         & (l.counted <= n)
-        & (l.cancelled <= n)
+        & (l.lastcancel <= n)
         & (l.events <= n)
-        & standing_in_range(n, standing)
+        & runs_within(n, runs)
 }

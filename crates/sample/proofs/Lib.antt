@@ -1,4 +1,5 @@
 pub mod Limits
+pub mod SampleBytes
 pub mod SampleRead
 pub mod AcceptedFields
 pub mod ExamplesHold

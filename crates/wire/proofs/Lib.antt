@@ -4,3 +4,4 @@ pub mod TwosComplement
 pub mod Splice
 pub mod FirstFault
 pub mod Tests
+pub mod Places

@@ -2,14 +2,14 @@
 -- Assumes nothing.
 use mathlib.Core.Path.{_≡_, refl, _∙_}
 use mathlib.Core.Bool.{Bool, true, false}
-use mathlib.Core.List.{List}
+use mathlib.Core.List.{List, [], _∷_, _++_}
 use Prim.Native.Nat.{ℕ, zero, suc, _+_, _*_, _/_, _%_, _^_, _≤_, _<_}
 use native.Mathlib.Nat.{pow-suc, div-lt-iff-lt-mul}
 use native.Mathlib.Numerals.{add-one}
 use native.Mathlib.Omega.{arith}
-use lib.ListN.{length, getD, take, drop, List·getD-eq-default}
+use lib.ListN.{length, getD, take, drop, replicate, List·getD-eq-default}
 use lib.Dec.{ltb}
-use lib.Seq.{drop-cons, take-all}
+use lib.Seq.{drop-cons, take-all, getD-take}
 use borrow.Author.Tests.{ltb-true, ltb-false}
 use Rattle.wire.specs.Words.{little, bytesOf, bytesAt, word, Bytes}
 
@@ -63,19 +63,41 @@ pub bytesAt-all : (s : List ℕ) (n : ℕ) → length s ≡ n → bytesAt n s 0 
 bytesAt-all s n h = bytesAt-part n s 0 (omega arith) ∙ take-all n s (omega arith)
 
 -- the number at a place, from its bytes one by one
-pub word16-made : (s : List ℕ) (p a b : ℕ) → a ≡ getD s (p + 0) 0 → b ≡ getD s (p + 1) 0 → a + 256 * b ≡ word 2 s p
-unfolding little bytesAt
+pub word16-made : (s : List ℕ) (p a b : ℕ) → a ≡ getD s (p + 0) 0 → b ≡ getD s (p + 1) 0 → little (a ∷ b ∷ []) ≡ word 2 s p
+unfolding bytesAt
 word16-made s p a b e f =
     let z : p + 0 ≡ p = omega arith in
-    let g : a ≡ getD s p 0 = rw z at e in
-    omega arith
+    rw (e, f, z)
 
 pub word32-made : (s : List ℕ) (p a b c d : ℕ) → a ≡ getD s (p + 0) 0 → b ≡ getD s (p + 1) 0 → c ≡ getD s (p + 2) 0 → d ≡ getD s (p + 3) 0
-    → a + 256 * b + 65536 * c + 16777216 * d ≡ word 4 s p
-unfolding little bytesAt
+    → little (a ∷ b ∷ c ∷ d ∷ []) ≡ word 4 s p
+unfolding bytesAt
 word32-made s p a b c d e f g h =
     let z : p + 0 ≡ p = omega arith in
     let two : p + 1 + 1 ≡ p + 2 = omega arith in
     let three : p + 2 + 1 ≡ p + 3 = omega arith in
-    let k : a ≡ getD s p 0 = rw z at e in
-    rw (two, three) (omega arith)
+    rw (two, three, e, f, g, h, z)
+
+-- the bytes at a place are the same in lists that have the same bytes there
+pub bytesAt-same : (k : ℕ) (s t : List ℕ) (p : ℕ) → ((i : ℕ) → i < p + k → getD s i 0 ≡ getD t i 0) → bytesAt k s p ≡ bytesAt k t p
+unfolding bytesAt
+bytesAt-same zero s t p h = refl
+bytesAt-same (suc k) s t p h = rw (h p (omega arith), bytesAt-same k s t (p + 1) (λ i l. h i (omega arith)))
+
+-- so they are in a part that reaches beyond them
+pub bytesAt-take : (k n : ℕ) (s : List ℕ) (p : ℕ) → p + k ≤ n → bytesAt k (take n s) p ≡ bytesAt k s p
+bytesAt-take k n s p h = bytesAt-same k (take n s) s p (λ i l. getD-take n s i 0 (omega arith))
+
+-- and in the list with zeros behind it, since bytes beyond the end count as 0
+getD-zeros : (n i : ℕ) → _≡_ {A = ℕ} (getD (replicate n 0) i 0) 0
+getD-zeros zero i = refl
+getD-zeros (suc n) zero = refl
+getD-zeros (suc n) (suc i) = getD-zeros n i
+
+getD-padded : (s : List ℕ) (n i : ℕ) → getD (s ++ replicate n 0) i 0 ≡ getD s i 0
+getD-padded [] n i = getD-zeros n i
+getD-padded (x ∷ s) n zero = refl
+getD-padded (x ∷ s) n (suc i) = getD-padded s n i
+
+pub bytesAt-padded : (k : ℕ) (s : List ℕ) (n p : ℕ) → bytesAt k (s ++ replicate n 0) p ≡ bytesAt k s p
+bytesAt-padded k s n p = bytesAt-same k (s ++ replicate n 0) s p (λ i l. getD-padded s n i)

@@ -1,10 +1,11 @@
 // What every record shares: a call's answer, little-endian words, signed numbers, and copying into lent memory.
 ghost use mathlib.Core.Path.{_≡_};
+ghost use mathlib.Core.List.{[], _∷_};
 ghost use Prim.Native.Nat.{_+_};
 ghost use lib.ListN.{getD};
 ghost use mir.Syntax.{w32};
 ghost use mir.Val.{toZ, ofZ};
-ghost use Rattle.wire.specs.Words.{bytesOf, word};
+ghost use Rattle.wire.specs.Words.{little, bytesOf, word};
 ghost use Rattle.wire.specs.Memory.{splice};
 ghost use Rattle.wire.specs.Outcome.{givenCount};
 
@@ -37,7 +38,7 @@ pub fn word16(bytes: &[u8], at: usize) -> u16
 {
     let a = byte(bytes, at, 0);
     let b = byte(bytes, at, 1);
-    a as u16 + 256 * (b as u16)
+    little16(a, b)
 }
 
 // The number in 4 bytes from place `at` on. Bytes beyond the end count as 0.
@@ -48,6 +49,20 @@ pub fn word32(bytes: &[u8], at: usize) -> u32
     let b = byte(bytes, at, 1);
     let c = byte(bytes, at, 2);
     let d = byte(bytes, at, 3);
+    little32(a, b, c, d)
+}
+
+// The number that 2 bytes stand for, the lower one first.
+pub fn little16(a: u8, b: u8) -> u16
+    ensures { λ r. ⌜ r ≡ little (a ∷ b ∷ []) ⌝ }
+{
+    a as u16 + 256 * (b as u16)
+}
+
+// The number that 4 bytes stand for, the lowest one first.
+pub fn little32(a: u8, b: u8, c: u8, d: u8) -> u32
+    ensures { λ r. ⌜ r ≡ little (a ∷ b ∷ c ∷ d ∷ []) ⌝ }
+{
     a as u32 + 256 * (b as u32) + 65536 * (c as u32) + 16777216 * (d as u32)
 }
 

@@ -11,12 +11,12 @@ use std::process::ExitCode;
 use yoldrim_tests::comparison::Comparison;
 use yoldrim_tests::days::{self, Day, Style};
 use yoldrim_tests::faults::{self, Change, Trial};
-#[cfg(library)]
-use yoldrim_tests::ffi;
 use yoldrim_tests::random::Random;
 use yoldrim_tests::reference::*;
 use yoldrim_tests::scenes::{self, stopped, Scene};
 use yoldrim_tests::tally::{self, Call, Tally};
+#[cfg(library)]
+use yoldrim_tests::{ffi, layout};
 use yoldrim_tests::{plain, printing};
 
 const DEFAULT_ROUNDS: u64 = 250;
@@ -55,9 +55,11 @@ fn compare_library(_rounds: u64) -> ExitCode {
 fn compare_library(rounds: u64) -> ExitCode {
     let mut tally = Tally::new();
     images::declare(&mut tally);
+    layout::declare(&mut tally);
     let mut library = ffi::Library::default();
     let mut comparison = Comparison::new(&mut library, tally);
     images::wrong_lengths(&mut comparison);
+    layout::check(&mut comparison);
     compare(&mut comparison, rounds)
 }
 

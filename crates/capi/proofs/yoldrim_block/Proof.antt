@@ -22,24 +22,18 @@ returns-2 c = image-refused _ _ 2 _ (block-room _ _ _ _ (c .before .if1 .left) (
 load-requires : tie.Need-load-requires
 load-requires c κs = search needs
 
-enum-told : tie.Need-enum-told
-enum-told c = search needs
+same-length : tie.Need-same-length
+same-length c = search needs
 
-enum-known-loading : tie.Need-enum-known-loading
-enum-known-loading c = search needs
+returns-3 : tie.Need-returns-3
+unfolding imageFault callFault lent
+returns-3 c = image-refused _ _ 21 _ (block-range _ _ _ _ (c .before .before .before .before .before .if1 .left) (c .before .before .before .before .if2 .left) (ap not (refused-image _ _ (c .before .before .load .ensures .found) (c .if3 .taken)))) (λ z. omega arith) refl
 
 block-requires : tie.Need-block-requires
 block-requires c κs = search needs
 
 finish-requires : tie.Need-finish-requires
 finish-requires c κs = call-count _ _ _ (c .before .before .before .block .ensures .answer)
-
-same-length : tie.Need-same-length
-same-length c = search needs
-
-returns-3 : tie.Need-returns-3
-unfolding imageFault callFault lent
-returns-3 c = image-refused _ _ 21 _ (block-range _ _ _ _ (c .before .before .before .before .before .if1 .left) (c .before .before .before .before .if2 .left) (ap not (refused-image _ _ (c .before .before .load .ensures .found) _ (c .enum-told .given .1)))) (λ z. omega arith) refl
 
 same-length-2 : tie.Need-same-length-2
 same-length-2 c = search needs
@@ -48,7 +42,7 @@ same-length-3 : tie.Need-same-length-3
 same-length-3 c = search needs
 
 returns-4 : tie.Need-returns-4
-returns-4 c = let a = accepted-image _ _ (c .before .before .before .before .before .before .before .before .before .before .before .load .ensures .found) _ (c .before .before .before .before .before .before .before .before .before .loading .given .1) in
+returns-4 c = let a = accepted-image _ _ (c .before .before .before .before .before .before .before .before .before .before .before .load .ensures .found) (c .before .before .before .before .before .before .before .before .before .if3 .left) in
     image-meets _ _ (a .0) _ (a .1) _ _ _ _ (record { sfits = c .before .before .finish .ok }) (c .before .before .finish .ensures) (c .before .before .before .before .before .before .block .ensures)
 
 pub yoldrim-block-spec : {M : Type 1} → statement M
@@ -58,12 +52,10 @@ yoldrim-block-spec =
     returns
     returns-2
     load-requires
-    enum-told
-    enum-known-loading
-    block-requires
-    finish-requires
     same-length
     returns-3
+    block-requires
+    finish-requires
     same-length-2
     same-length-3
     returns-4)

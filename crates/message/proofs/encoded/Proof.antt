@@ -138,12 +138,25 @@ array-read-t86 : tie.Need-array-read-t86
 array-read-t86 c = search needs
 
 returns : tie.Need-returns
-returns c = let m = c .before .before .before .before .before .before .before .before .before .before .before .before .before .before .args .m in
+returns c = let north = c .before .before in
+    let east = north .before .before .before in
+    let reference = east .before .before .before in
+    let event = reference .before .before in
+    let direction = event .before .before in
+    let m = direction .before .before .args .m in
     let p = m .position in
-    let east = ap (ofZ w32) (signed-again (p .east) (record { sfits = c .before .before .before .before .before .before .before .struct-told .given .0 .1 })) in
-    let north = ap (ofZ w32) (signed-again (p .north) (record { sfits = c .before .before .before .before .struct-told2 .given .1 .0 .1 })) in
-    bytes-made m _ _ _ _ _ _ _ _ _ (c .before .before .before .before .before .before .before .before .before .before .before .before .before .row-of .ensures) (c .before .before .before .before .before .before .before .before .before .before .before .before .direction-of .ensures) (c .before .before .before .before .before .before .before .before .before .before .bytes32 .ensures) (c .before .before .before .before .before .before .before .before .before .bytes322 .ensures) (c .before .before .before .before .before .before .before .before .bytes323 .ensures)
-    (c .before .before .before .before .before .bytes324 .ensures ∙ ap (bytesOf 4) (c .before .before .before .before .before .before .unsigned .ensures ∙ east)) (c .before .before .bytes325 .ensures ∙ ap (bytesOf 4) (c .before .before .before .unsigned2 .ensures ∙ north)) (c .before .bytes16 .ensures) (c .bytes162 .ensures)
+    let x = ap (ofZ w32) (signed-again (p .east) (record { sfits = east .before .before .struct-told .given .0 .1 })) in
+    let y = ap (ofZ w32) (signed-again (p .north) (record { sfits = north .before .before .struct-told2 .given .1 .0 .1 })) in
+    bytes-made m _ _ _ _ _ _ _ _ _
+    (direction .before .row-of .ensures)
+    (direction .direction-of .ensures)
+    (event .bytes32 .ensures)
+    (reference .before .bytes322 .ensures)
+    (reference .bytes323 .ensures)
+    (east .bytes324 .ensures ∙ ap (bytesOf 4) (east .before .unsigned .ensures ∙ x))
+    (north .bytes325 .ensures ∙ ap (bytesOf 4) (north .before .unsigned2 .ensures ∙ y))
+    (c .before .bytes16 .ensures)
+    (c .bytes162 .ensures)
 
 pub encoded-spec : {M : Type 1} → statement M
 encoded-spec =

@@ -27,7 +27,7 @@ shared-slice-read-result-3 c = search needs
 
 returns : tie.Need-returns
 unfolding derivedFit allHold
-returns c = simp (c .before .before .before .before .before .before .before .row-of .ensures, c .before .before .before .before .before .direction-of .ensures)
+returns c = let direction = c .before .before .before .before .before in simp (direction .before .before .row-of .ensures, direction .direction-of .ensures)
 
 pub is-derived-spec : {M : Type 1} → statement M
 is-derived-spec =

@@ -22,11 +22,17 @@ is-admitted-requires c κs = search needs
 
 returns-2 : tie.Need-returns-2
 unfolding reading messageRead firstFault outcome
-returns-2 c = found-promise _ _ (λ i h. omega (arith, c .before .before .before .before .before .shared-slice-known .given i)) (simp (eq-eqb _ _ (c .before .before .before .before .if1 .left), ← c .before .before .is-derived .ensures, ← c .before .before .before .fields .ensures, ← c .before .is-admitted .ensures, c .if2 .taken))
+returns-2 c = let fields = c .before .before .before in
+    let whole = fields .before in
+    found-promise _ _ (λ i h. omega (arith, whole .before .shared-slice-known .given i))
+    (simp (eq-eqb _ _ (whole .if1 .left), ← c .before .before .is-derived .ensures, ← fields .fields .ensures, ← c .before .is-admitted .ensures, c .if2 .taken))
 
 returns-3 : tie.Need-returns-3
 unfolding reading messageRead firstFault outcome
-returns-3 c = found-promise _ _ (λ i h. omega (arith, c .before .before .before .before .before .shared-slice-known .given i)) (simp (eq-eqb _ _ (c .before .before .before .before .if1 .left), ← c .before .before .is-derived .ensures, ← c .before .before .before .fields .ensures, ← c .before .is-admitted .ensures, c .if2 .left))
+returns-3 c = let fields = c .before .before .before in
+    let whole = fields .before in
+    found-promise _ _ (λ i h. omega (arith, whole .before .shared-slice-known .given i))
+    (simp (eq-eqb _ _ (whole .if1 .left), ← c .before .before .is-derived .ensures, ← fields .fields .ensures, ← c .before .is-admitted .ensures, c .if2 .left))
 
 pub read-spec : {M : Type 1} → statement M
 read-spec =

@@ -18,10 +18,10 @@ unfolding rows
 returns c = row-of-warning (c .before .before .before .args .warning) (omega arith) (omega arith)
 
 returns-2 : tie.Need-returns-2
-returns-2 c = no-row (c .before .args .warning) (λ e. omega arith) (λ e. omega arith) (λ e. omega arith)
+returns-2 c = no-row (c .before .args .warning) (λ e. omega arith)
 
 returns-3 : tie.Need-returns-3
-returns-3 c = no-row (c .before .before .args .warning) (λ e. omega arith) (λ e. omega arith) (λ e. omega arith)
+returns-3 c = no-row (c .before .before .args .warning) (λ e. omega arith)
 
 pub row-of-spec : {M : Type 1} → statement M
 row-of-spec =

@@ -46,8 +46,11 @@ same-length c = search needs
 
 returns-3 : tie.Need-returns-3
 unfolding answered writeFault firstFault outcome memory
-returns-3 c = written-promise _ _ _ _ (simp (le-ltb _ _ (c .before .before .before .before .before .before .before .before .if1 .left), ← c .before .before .before .before .before .before .before .is-admitted .ensures, c .before .before .before .before .before .before .if2 .left)
-    (refl, written _ _ _ _ (c .before .before .before .before .before .encoded .ensures) (c .before .before .copy-at .ensures) (c .before .before .before .before .before .before .before .before .if1 .left)))
+returns-3 c = let encoded = c .before .before .before .before .before in
+    let admitted = encoded .before in
+    let room = admitted .before .before .if1 .left in
+    written-promise _ _ _ _ (simp (le-ltb _ _ room, ← admitted .before .is-admitted .ensures, admitted .if2 .left)
+    (refl, written _ _ _ _ (encoded .encoded .ensures) (c .before .before .copy-at .ensures) room))
 
 pub write-spec : {M : Type 1} → statement M
 write-spec =

@@ -3,16 +3,17 @@ use Prim.Native.Nat.{_-_, _≤_}
 use native.Mathlib.Omega.{arith}
 use lib.ListN.{drop}
 use borrow.Author.Needs.{needs}
-use Rattle.history.specs.Rules.{unitSettings, byRank}
+use Rattle.message.specs.Warnings.{warningCount, byRank}
+use Rattle.history.specs.Rules.{unitSettings}
 use Rattle.engine.proofs.HighestFound.{firstBy, listed-small, passes, found-highest, none-highest}
 use Rattle.engine.proofs.deciding.highest.Statement.{statement}
 use Rattle.engine.proofs.deciding.highest.Tie as tie
 
 abbrev Inv-loop : tie.InvT-loop
-Inv-loop below triggered i₀ i = (i ≤ 3) × (firstBy triggered below byRank ≡ firstBy triggered below (drop i byRank))
+Inv-loop below triggered i₀ i = (i ≤ warningCount) × (firstBy triggered below byRank ≡ firstBy triggered below (drop i byRank))
 
 abbrev μ-loop : tie.MeasureT-loop
-μ-loop below triggered i₀ i = 3 - i
+μ-loop below triggered i₀ i = warningCount - i
 
 standing-rank-requires : tie.Need-standing-rank-requires Inv-loop μ-loop
 standing-rank-requires c κs = search needs
@@ -33,10 +34,10 @@ array-read-warning : tie.Need-array-read-warning Inv-loop μ-loop
 array-read-warning c = search needs
 
 cast-at : tie.Need-cast-at Inv-loop μ-loop
-cast-at c = record { fits = omega (arith, listed-small (c .before .loop .i) (omega arith)) }
+cast-at c = record { fits = omega (arith, listed-small (c .before .loop .i)) }
 
 array-read-if1 : tie.Need-array-read-if1 Inv-loop μ-loop
-array-read-if1 c = omega (arith, listed-small (c .before .loop .i) (omega arith))
+array-read-if1 c = omega (arith, listed-small (c .before .loop .i))
 
 rank-requires : tie.Need-rank-requires Inv-loop μ-loop
 rank-requires c κs = search needs

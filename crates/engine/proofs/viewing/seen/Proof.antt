@@ -1,5 +1,5 @@
 use native.Mathlib.Omega.{arith}
-use Rattle.engine.proofs.StateSeen.{absent-still-fits, seen-made}
+use Rattle.engine.proofs.StateSeen.{runs-still-fit, seen-made}
 use borrow.Author.Needs.{needs}
 use Rattle.engine.proofs.viewing.seen.Statement.{statement}
 use Rattle.engine.proofs.viewing.seen.Tie as tie
@@ -10,14 +10,20 @@ conditions-at-requires c κs = search needs
 counted-from-requires : tie.Need-counted-from-requires
 counted-from-requires c κs = search needs
 
+array-read-t14 : tie.Need-array-read-t14
+array-read-t14 c = search needs
+
+array-read-t17 : tie.Need-array-read-t17
+array-read-t17 c = search needs
+
 quality-from-requires : tie.Need-quality-from-requires
-quality-from-requires c κs = let k = c .before .before .before .before .before .before .before .before .before .before .before .before .pre .0 in (omega (arith, c .before .before .before .before .before .counted-from .ensures, k .room, k .fits .cancelled), absent-still-fits _ _ _ k (c .before .before .before .before .before .before .before .before .before .before .before .before .pre .1))
+quality-from-requires c κs = let k = c .before .before .before .before .before .before .before .before .before .before .before .pre .0 in (omega (arith, c .before .before .before .before .before .counted-from .ensures, k .room, k .fits .counts 4), runs-still-fit _ _ _ k (c .before .before .before .before .before .before .before .before .before .before .before .pre .1))
 
 quality-from-requires-2 : tie.Need-quality-from-requires-2
-quality-from-requires-2 c κs = let k = c .before .before .before .before .before .before .before .before .before .before .before .before .before .pre .0 in (omega (arith, k .room, k .fits .counted), absent-still-fits _ _ _ k (c .before .before .before .before .before .before .before .before .before .before .before .before .before .pre .1))
+quality-from-requires-2 c κs = let k = c .before .before .before .before .before .before .before .before .before .before .before .before .pre .0 in (omega (arith, k .room, k .fits .counts 3), runs-still-fit _ _ _ k (c .before .before .before .before .before .before .before .before .before .before .before .before .pre .1))
 
 returns : tie.Need-returns
-returns c = seen-made _ _ _ _ _ _ _ (c .before .before .before .before .before .before .before .before .before .before .before .before .conditions-at .ensures) (c .before .before .before .before .before .before .before .counted-from .ensures) (c .before .quality-from .ensures) (c .quality-from2 .ensures)
+returns c = seen-made _ _ _ _ _ _ _ (c .before .before .before .before .before .before .before .before .before .before .before .conditions-at .ensures) (c .before .before .before .before .before .before .before .counted-from .ensures) (c .before .quality-from .ensures) (c .quality-from2 .ensures)
 
 pub seen-spec : {M : Type 1} → statement M
 seen-spec =
@@ -25,6 +31,8 @@ seen-spec =
     (tie.spec
     conditions-at-requires
     counted-from-requires
+    array-read-t14
+    array-read-t17
     quality-from-requires
     quality-from-requires-2
     returns)

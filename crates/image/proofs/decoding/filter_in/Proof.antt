@@ -1,9 +1,9 @@
-use Rattle.image.proofs.FilterBits.{bits-no-nan, filter-untagged, filter-nan, filter-value}
+use Rattle.image.proofs.FilterBits.{bits-no-nan, filter-empty, filter-nan, filter-value}
 use Rattle.image.proofs.decoding.filter_in.Statement.{statement}
 use Rattle.image.proofs.decoding.filter_in.Tie as tie
 
 returns : tie.Need-returns
-returns c = filter-untagged _ _ (c .if1 .taken)
+returns c = filter-empty _ _ (c .if1 .taken)
 
 returns-2 : tie.Need-returns-2
 returns-2 c = filter-nan _ _ (c .before .if1 .left) (c .if2 .taken)

@@ -1,10 +1,10 @@
-use Rattle.image.proofs.StandingIn.{standing-untagged, standing-read, standing-refused}
+use Rattle.image.proofs.StandingIn.{standing-none, standing-read, standing-refused}
 use borrow.Author.Needs.{needs}
 use Rattle.image.proofs.decoding.standing_in.Statement.{statement}
 use Rattle.image.proofs.decoding.standing_in.Tie as tie
 
 returns : tie.Need-returns
-returns c = standing-untagged _ _ (c .if1 .taken)
+returns c = standing-none _ _ (c .if1 .taken)
 
 read-requires : tie.Need-read-requires
 read-requires c κs = search needs

@@ -11,13 +11,13 @@ use Rattle.image.proofs.encoding.put_words.Statement.{statement}
 use Rattle.image.proofs.encoding.put_words.Tie as tie
 
 abbrev Inv-loop : tie.InvT-loop
-Inv-loop words out₀ i₀ out i = (i ≤ length words) × ((out ≡ splice out₀ 0 (wordBytes (take i words))) × (length out ≡ length out₀))
+Inv-loop out₀ at words i₀ out i = (i ≤ length words) × ((out ≡ splice out₀ at (wordBytes (take i words))) × (length out ≡ length out₀))
 
 abbrev μ-loop : tie.MeasureT-loop
-μ-loop words out₀ i₀ out i = length words - i
+μ-loop out₀ at words i₀ out i = length words - i
 
 loop-holds : tie.Need-loop-holds Inv-loop μ-loop
-loop-holds c = (omega arith, (words-none (now (c .before .before .args .words)) (now (c .before .before .args .out)) (c .before .before .pre), search needs))
+loop-holds c = let a = c .before .before .args in (omega arith, (words-none (now (a .out)) (a .at) (now (a .words)) (c .before .before .pre), search needs))
 
 mul-bytes32 : tie.Need-mul-bytes32 Inv-loop μ-loop
 mul-bytes32 c = search needs
@@ -30,6 +30,9 @@ bytes32-requires c κs = search needs
 
 mul-copy-at : tie.Need-mul-copy-at Inv-loop μ-loop
 mul-copy-at c = search needs
+
+add-copy-at : tie.Need-add-copy-at Inv-loop μ-loop
+add-copy-at c = search needs
 
 slice-aggregate-copy-at : tie.Need-slice-aggregate-copy-at Inv-loop μ-loop
 slice-aggregate-copy-at c = search needs
@@ -44,13 +47,16 @@ loop-less : tie.Need-loop-less Inv-loop μ-loop
 loop-less c = search needs
 
 loop-again : tie.Need-loop-again Inv-loop μ-loop
-loop-again c = let l = c .before .before .before .before .before .before .before .before .loop in (omega arith, (words-more _ _ (c .before .before .before .before .before .before .before .before .before .before .before .pre) (l .i) _ _ _ (c .before .before .before .before .before .before .before .loop-test .taken) (l .inv .1 .0) (c .before .before .before .before .before .bytes32 .ensures) (c .before .before .copy-at .ensures), search needs))
+loop-again c =
+    let turn = c .before .before .before .before .before .before .before in
+    let l = turn .before .loop in
+    (omega arith, (words-more _ _ _ (turn .before .before .before .before .pre) (l .i) _ _ _ (turn .loop-test .taken) (l .inv .1 .0) (c .before .before .before .before .before .bytes32 .ensures) (c .before .before .copy-at .ensures), search needs))
 
 same-length : tie.Need-same-length Inv-loop μ-loop
 same-length c = search needs
 
 returns : tie.Need-returns Inv-loop μ-loop
-returns c = let l = c .before .loop in words-all _ _ (c .before .before .before .before .pre) (l .i) _ (c .loop-test .left) (l .inv .1 .0)
+returns c = let l = c .before .loop in words-all _ _ _ (c .before .before .before .before .pre) (l .i) _ (c .loop-test .left) (l .inv .1 .0)
 
 pub put-words-spec : {M : Type 1} → statement M
 put-words-spec =
@@ -63,6 +69,7 @@ put-words-spec =
     shared-slice-read-bytes32
     bytes32-requires
     mul-copy-at
+    add-copy-at
     slice-aggregate-copy-at
     copy-at-requires
     add-i
