@@ -6,12 +6,14 @@ program=target/bin/yoldrim
 
 for recording in examples/*.bin; do
     "$program" < "$recording" | diff - "${recording%.bin}.txt"
-    dd if="$recording" bs=389 status=none | "$program" | diff - "${recording%.bin}.txt"
+    # The program may end before its input does: at a refused block. The pipe's writer is then told so, which is no failure.
+    { dd if="$recording" bs=389 status=none || true; } | "$program" | diff - "${recording%.bin}.txt"
     echo "$recording: as expected, from a file and in pieces of 389 bytes"
 done
 
 # A message is printed when its block has come: the pipe stays open until its line is read.
 coproc live { "$program"; }
+program_id=$live_PID # bash drops live_PID once the program has ended
 cat examples/one-block.bin >&"${live[1]}"
 line=
 read -r -t 20 line <&"${live[0]}" || true
@@ -21,4 +23,4 @@ if [ "$line" != "$(head -n 1 examples/one-block.txt)" ]; then
 fi
 echo "a live pipe: its line came while it was open"
 exec {live[1]}>&-
-wait "$live_PID"
+wait "$program_id"

@@ -4,13 +4,14 @@ ghost use Rattle.history.specs.Ranges.{standingInRange, within, stateInRange};
 use history::Notice;
 use history::RUNS;
 use history::State;
+use message::CANCEL;
 
 fn standing_in_range(n: u32, standing: Notice) -> bool
     ensures { λ r. ⌜ r ≡ standingInRange n standing ⌝ }
 {
     match standing {
         Notice::Nothing => true,
-        Notice::Sent(m) => m.is_admitted() & !(m.kind == 3) & (m.reference < n),
+        Notice::Sent(m) => m.is_admitted() & !(m.kind == CANCEL) & (m.reference < n),
     }
 }
 
@@ -26,17 +27,20 @@ fn runs_within(n: u32, runs: [u32; RUNS]) -> bool
     all
 }
 
-// Whether refusal 21 lets a state pass.
+// Whether refusal 21 lets a state pass. The runs are done with first, so that none is kept over the message's test.
 pub fn state_in_range(s: State) -> bool
     ensures { λ r. ⌜ r ≡ stateInRange s ⌝ }
 {
     let n = s.taken;
+    let runs = s.runs;
+    if !runs_within(n, runs) {
+        return false;
+    }
     let f = s.filter;
     let c1 = s.stoppedcycle;
     let c2 = s.brokendowncycle;
     let l = s.log;
     let standing = l.standing;
-    let runs = s.runs;
     (n <= 10000000)
         & f.in_range()
         & standing_in_range(n, standing)
@@ -46,5 +50,4 @@ pub fn state_in_range(s: State) -> bool
         & (l.counted <= n)
         & (l.lastcancel <= n)
         & (l.events <= n)
-        & runs_within(n, runs)
 }
