@@ -36,31 +36,32 @@ extern "C" {
  *   3-7      1 or 0, for the cycle of warning 1: park, idle, brake, belt fulfilled in it, an expiring condition
  *   8-12     1 or 0, for the cycle of warning 2: the same
  *   13       1 while a warning stands, else 0
- *   14-45    the standing warning's last New or Update, as a message; zeros while none stands
- *   46-49    samples taken
- *   50-53    the bits of the filter's value, an IEEE 754 binary32 number; 0 without a reading yet
- *   54-57    ticks of the detection cycle of warning 1
- *   58-61    ticks of the detection cycle of warning 2
- *   62-65    tick of the last New
- *   66-69    first tick that the last New counted
- *   70-73    tick of the last Cancel of warning 3
- *   74-77    number of News
- *   78-81    ticks stationary up to now
- *   82-85    ticks moving up to now
- *   86-89    ticks in park up to now
- *   90-93    ticks in idle up to now
- *   94-97    ticks with the parking brake on up to now
- *   98-101   ticks with the belt off up to now
- *   102-105  ticks with ignition off up to now
- *   106-109  ticks with a door open up to now
- *   110-113  ticks with the boot open up to now
- *   114-117  ticks with the bonnet open up to now
- *   118-121  ticks without eCall up to now
- *   122-125  ticks without a low severity crash or pedestrian collision up to now
- *   126-129  ticks without a high severity crash up to now
+ *   14-15    zeros, so that every number stands at a place that four divides
+ *   16-47    the standing warning's last New or Update, as a message; zeros while none stands
+ *   48-51    samples taken
+ *   52-55    the bits of the filter's value, an IEEE 754 binary32 number; 0 without a reading yet
+ *   56-59    ticks of the detection cycle of warning 1
+ *   60-63    ticks of the detection cycle of warning 2
+ *   64-67    tick of the last New
+ *   68-71    first tick that the last New counted
+ *   72-75    tick of the last Cancel of warning 3
+ *   76-79    number of News
+ *   80-83    ticks stationary up to now
+ *   84-87    ticks moving up to now
+ *   88-91    ticks in park up to now
+ *   92-95    ticks in idle up to now
+ *   96-99    ticks with the parking brake on up to now
+ *   100-103  ticks with the belt off up to now
+ *   104-107  ticks with ignition off up to now
+ *   108-111  ticks with a door open up to now
+ *   112-115  ticks with the boot open up to now
+ *   116-119  ticks with the bonnet open up to now
+ *   120-123  ticks without eCall up to now
+ *   124-127  ticks without a low severity crash or pedestrian collision up to now
+ *   128-131  ticks without a high severity crash up to now
  * A fresh image has 0 in every byte but the first. Memory that is no image is refused with 21: of another length or layout, with a
  * number outside the ranges of refusal 21, or with a byte that no engine's image has in its place. */
-#define YOLDRIM_ENGINE_BYTES 130
+#define YOLDRIM_ENGINE_BYTES 132
 
 /* The layout's number, the first byte of every image. An image may outlive the software that saved it: every change of the engine's
  * state raises this number, and an image of another layout is refused with 21 and left as it was, never misread. A unit whose kept

@@ -131,6 +131,7 @@ fn kept(history: &History, layout: u8) -> Vec<(&'static str, Vec<u8>)> {
         ("1 or 0, for the cycle of warning 1", marks(cycles[0])),
         ("1 or 0, for the cycle of warning 2", marks(cycles[1])),
         ("1 while a warning stands", vec![standing.is_some().into()]),
+        ("zeros, so that every number", vec![0; 2]),
         ("the standing warning's", standing.map_or([0; MESSAGE_BYTES], Message::record).to_vec()),
     ];
     let numbers = [

@@ -31,7 +31,8 @@ use Rattle.image.specs.declared.Loading.{Loading}
 abbrev pub layout : ℕ
 layout = 1
 
--- then yes or no, one byte each: whether the filter is running, ignition, five marks of each cycle, whether a warning stands
+-- then yes or no, one byte each: whether the filter is running, ignition, five marks of each cycle, whether a warning stands; and
+-- two zeros, so that every number stands at a place that four divides
 abbrev pub flagsPlace : ℕ
 flagsPlace = 1
 
@@ -45,7 +46,7 @@ abbrev pub sentFlag : ℕ
 sentFlag = brokenDownMarks + 5
 
 abbrev pub flagCount : ℕ
-flagCount = sentFlag + 1
+flagCount = sentFlag + 3
 
 -- then the standing warning's record
 abbrev pub standingPlace : ℕ
@@ -88,7 +89,7 @@ marksOf c = flag (c .park) ∷ flag (c .idle) ∷ flag (c .brake) ∷ flag (c .b
 
 -- by whether the filter is running and whether a warning stands
 abbrev pub flagsBy : Bool → Bool → State → List ℕ
-flagsBy running sent s = flag running ∷ flag (s .ignition) ∷ marksOf (s .stoppedcycle) ++ marksOf (s .brokendowncycle) ++ (flag sent ∷ [])
+flagsBy running sent s = flag running ∷ flag (s .ignition) ∷ marksOf (s .stoppedcycle) ++ marksOf (s .brokendowncycle) ++ (flag sent ∷ 0 ∷ 0 ∷ [])
 
 unfoldable pub flagsOf : State → List ℕ
 flagsOf s = flagsBy (isRunning (s .filter)) (isSent (s .log .standing)) s

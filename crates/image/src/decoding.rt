@@ -101,10 +101,12 @@ fn log_in(s: &[u8]) -> Log
     }
 }
 
+// The log is read first: its record may take a call, and the numbers read before it would be kept over that call.
 pub(crate) fn state_in(s: &[u8]) -> State
     requires { ⌜ length (now s) ≡ imageSize ⌝ }
     ensures { λ r. ⌜ r ≡ stateIn (now (s .entry)) ⌝ }
 {
+    let log = log_in(s);
     let runs = runs_in(s);
     State {
         taken: number_in(s, 0),
@@ -113,7 +115,7 @@ pub(crate) fn state_in(s: &[u8]) -> State
         runs,
         stoppedcycle: cycle_in(s, 2, STOPPED_MARKS),
         brokendowncycle: cycle_in(s, 3, BROKEN_DOWN_MARKS),
-        log: log_in(s),
+        log,
     }
 }
 

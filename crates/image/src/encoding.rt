@@ -56,6 +56,8 @@ fn flags_by(running: bool, sent: bool, s: State) -> [u8; FLAGS]
         c2.belt as u8,
         c2.expiring as u8,
         sent as u8,
+        0,
+        0,
     ]
 }
 

@@ -10,14 +10,15 @@ use history::RUNS;
 // The first byte of an image. Every change of what an image holds raises it, so that no image of other software is misread.
 const LAYOUT: u8 = 1;
 
-// Yes or no, by their places: whether the filter is running, ignition, five marks of each cycle, whether a warning stands.
+// Yes or no, by their places: whether the filter is running, ignition, five marks of each cycle, whether a warning stands; and two
+// zeros, so that every number stands at a place that four divides, where the compiler compares it whole.
 const STOPPED_MARKS: usize = 2;
 
 const BROKEN_DOWN_MARKS: usize = STOPPED_MARKS + 5;
 
 const SENT: usize = BROKEN_DOWN_MARKS + 5;
 
-const FLAGS: usize = SENT + 1;
+const FLAGS: usize = SENT + 3;
 
 // The numbers before the runs.
 const NUMBERS: usize = 8;

@@ -33,14 +33,15 @@ log-in-requires c κs = search needs
 returns : tie.Need-returns
 unfolding stateIn
 returns c =
-    let filter = c .before .before .before .before in
+    let filter = c .before .before .before in
     let taken = filter .before .before .before in
-    simp (taken .before .runs-in .ensures, taken .number-in .ensures, filter .before .before .flag-in .ensures, filter .before .number-in2 .ensures, filter .filter-in .ensures, c .before .before .before .flag-in2 .ensures, c .before .before .cycle-in .ensures, c .before .cycle-in2 .ensures, c .log-in .ensures)
+    simp (taken .before .before .log-in .ensures, taken .before .runs-in .ensures, taken .number-in .ensures, filter .before .before .flag-in .ensures, filter .before .number-in2 .ensures, filter .filter-in .ensures, c .before .before .flag-in2 .ensures, c .before .cycle-in .ensures, c .cycle-in2 .ensures)
 
 pub state-in-spec : {M : Type 1} → statement M
 state-in-spec =
     tie.close
     (tie.spec
+    log-in-requires
     runs-in-requires
     number-in-requires
     flag-in-requires
@@ -49,5 +50,4 @@ state-in-spec =
     flag-in-requires-2
     cycle-in-requires
     cycle-in-requires-2
-    log-in-requires
     returns)
