@@ -2,6 +2,7 @@
 ghost use mathlib.Core.Path.{_≡_};
 ghost use mathlib.Core.Bool.{cond};
 ghost use Prim.Native.Nat.{_<_, _≤_};
+ghost use Rattle.sample.specs.Sample.{switchesOf, happeningsOf};
 ghost use Rattle.history.specs.Rules.{rank, standingRank};
 ghost use Rattle.history.specs.Ranges.{Within};
 ghost use Rattle.history.specs.History.{isStill};
@@ -24,7 +25,9 @@ use history::RUNS;
 use history::State;
 use message::BROKEN_DOWN;
 use message::STOPPED;
+use sample::Happenings;
 use sample::Sample;
+use sample::Switches;
 
 fn go_on(b: bool, n: u32) -> u32
     requires { ⌜ n ≤ 10000000 ⌝ }
@@ -39,12 +42,11 @@ fn mark(goes_on: bool, now: bool, before: bool) -> bool
     if goes_on { now | before } else { false }
 }
 
-// Which of the facts whose runs are kept are true of the sample, each at the place of its run.
-fn facts_of(still: bool, x: Sample) -> [bool; RUNS]
-    ensures { λ r. ⌜ r ≡ factsOf still x ⌝ }
+// Which of the facts whose runs are kept are true of the sample, each at the place of its run. That these are the sample's switches
+// and happenings is asked for behind the answer, so that a fact more changes this list and no proof.
+fn facts_by(still: bool, x: Sample, w: Switches, h: Happenings) -> [bool; RUNS]
+    ensures { λ r. ⌜ (w ≡ switchesOf x → h ≡ happeningsOf x → r ≡ factsOf still x) ⌝ }
 {
-    let w = x.switches_on();
-    let h = x.happenings_now();
     [
         still,
         !still,
@@ -60,6 +62,14 @@ fn facts_of(still: bool, x: Sample) -> [bool; RUNS]
         !(h.low | h.pedestrian),
         !h.high,
     ]
+}
+
+fn facts_of(still: bool, x: Sample) -> [bool; RUNS]
+    ensures { λ r. ⌜ r ≡ factsOf still x ⌝ }
+{
+    let w = x.switches_on();
+    let h = x.happenings_now();
+    facts_by(still, x, w, h)
 }
 
 fn runs_after(facts: [bool; RUNS], old: [u32; RUNS]) -> [u32; RUNS]
