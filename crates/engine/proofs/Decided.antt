@@ -6,10 +6,10 @@ use Prim.Native.Nat.{ℕ, _≤_}
 use lib.Dec.{T, leb, leb→le}
 use lib.IntN.{natAbs}
 use Rattle.wire.proofs.Tests.{neither}
+use Rattle.warnings.specs.Warnings.{rowOf}
+use Rattle.warnings.proofs.Table.{any-number}
 use Rattle.sample.specs.declared.Position.{Position}
 use Rattle.sample.specs.Sample.{outside, beyond}
-use Rattle.message.specs.Warnings.{rowOf}
-use Rattle.message.proofs.Table.{any-number}
 use Rattle.engine.proofs.Squares.{inside-small}
 
 pub delay-small : (w : ℕ) → rowOf w .delay ≤ 150

@@ -8,8 +8,8 @@ use native.Mathlib.Numerals.{add-one}
 use lib.Dec.{leb, ltb, leb→le}
 use lib.ListN.{getD, drop}
 use lib.Seq.{drop-cons}
-use Rattle.message.specs.Warnings.{warningCount, byRank}
-use Rattle.message.proofs.Table.{any-number}
+use Rattle.warnings.specs.Warnings.{warningCount, byRank}
+use Rattle.warnings.proofs.Table.{any-number}
 use Rattle.history.specs.declared.View.{View}
 use Rattle.history.specs.Rules.{Settings, rank, standingRank, cycleTriggers, crashTriggers, triggers, overrules, highestOf, highest}
 

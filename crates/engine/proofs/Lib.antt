@@ -6,12 +6,10 @@ pub mod Decided
 pub mod HighestFound
 pub mod StepFits
 pub mod SteadyStep
-pub mod SamplesInTurn
 pub mod Records
 pub mod Running
 pub mod SteadyStretch
-pub mod CallFaults
+pub mod CallsMeet
 pub mod CallCounts
-pub mod OrderOfChecksHolds
 pub mod DocumentHolds
 pub mod DemandHolds

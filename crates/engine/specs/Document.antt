@@ -1,5 +1,6 @@
 -- What document 01 writes out, of the definitions that the promises cite: its tables, bounds and orders, its sentences in words, and its stops.
 -- `Engine::fresh` ensures it, so that no part of it can go unseen. Assumes nothing.
+use Rattle.warnings.specs.Examples.{WarningExamples}
 use Rattle.sample.specs.Examples.{SampleExamples}
 use Rattle.filter.specs.Examples.{FilterExamples, FilterLaws}
 use Rattle.message.specs.Examples.{MessageExamples}
@@ -8,7 +9,7 @@ use Rattle.history.specs.InWords.{InWords}
 use Rattle.history.specs.BenchStops.{BenchStops}
 use Rattle.history.specs.FurtherStops.{FurtherStops}
 use Rattle.history.specs.RangeExamples.{RangeExamples}
-use Rattle.engine.specs.OrderOfChecks.{OrderOfChecks}
+use Rattle.checks.specs.OrderOfChecks.{OrderOfChecks}
 
 pub record Document : Type 0 where
   -- "The sample"
@@ -19,6 +20,7 @@ pub record Document : Type 0 where
   -- "The history reading"
   pub in-words : InWords
   -- "The message"
+  pub warnings : WarningExamples
   pub message : MessageExamples
   -- "The block and its calls"
   pub block : BlockExamples

@@ -2,6 +2,5 @@ pub mod Fits
 pub mod Steady
 pub mod Calls
 pub mod Turns
-pub mod OrderOfChecks
 pub mod Document
 pub mod Demand

@@ -13,14 +13,14 @@ use history::Cycle;
 use history::Decision;
 use history::Notice;
 use history::View;
-use message::BY_RANK;
-use message::CANCEL;
 use message::Message;
-use message::NEW;
-use message::POST_CRASH;
-use message::UPDATE;
-use message::WARNINGS;
 use sample::Position;
+use warnings::BY_RANK;
+use warnings::CANCEL;
+use warnings::NEW;
+use warnings::POST_CRASH;
+use warnings::UPDATE;
+use warnings::WARNINGS;
 
 fn one(b: bool) -> u32
     ensures { λ r. ⌜ (r ≡ one b) × (r ≤ 1) ⌝ }
@@ -117,14 +117,14 @@ fn report_of(kind: u8, warning: u8, event: u32, g: u8, v: View) -> Message
         kind,
         warning,
         quality: quality_of(v, warning, g),
-        roadtype: message::road_type_of(x.road),
+        roadtype: warnings::road_type_of(x.road),
         since: stationary_since(v.stationary),
         event,
         detection: v.tick,
         reference: v.tick,
         position,
         heading: x.heading,
-        validity: message::validity_of(warning, w.ignition),
+        validity: warnings::validity_of(warning, w.ignition),
     }
 }
 
@@ -176,7 +176,7 @@ fn driven_off(v: View, m: Message) -> bool
     requires { ⌜ ViewFits v ⌝ }
     ensures { λ r. ⌜ r ≡ drivenOff v m ⌝ }
 {
-    let row = message::row_of(m.warning);
+    let row = warnings::row_of(m.warning);
     (row.delay < v.moving) & (v.started + row.delay <= v.tick)
 }
 
@@ -202,7 +202,7 @@ fn update_due(v: View, m: Message) -> bool
     requires { ⌜ MessageFits m ⌝ }
     ensures { λ r. ⌜ r ≡ updateDue v m ⌝ }
 {
-    let row = message::row_of(m.warning);
+    let row = warnings::row_of(m.warning);
     (m.reference + row.period <= v.tick) | v.switchedoff
 }
 

@@ -8,10 +8,10 @@ ghost use Rattle.history.specs.State.{logged, loggedNotice};
 use crate::viewing::counted_from;
 use history::Log;
 use history::Notice;
-use message::CANCEL;
 use message::Message;
-use message::NEW;
-use message::POST_CRASH;
+use warnings::CANCEL;
+use warnings::NEW;
+use warnings::POST_CRASH;
 
 fn pick(b: bool, x: u32, y: u32) -> u32
     ensures { λ r. ⌜ r ≡ cond b x y ⌝ }

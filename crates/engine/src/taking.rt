@@ -23,11 +23,11 @@ use history::Notice;
 use history::PARK;
 use history::RUNS;
 use history::State;
-use message::BROKEN_DOWN;
-use message::STOPPED;
 use sample::Happenings;
 use sample::Sample;
 use sample::Switches;
+use warnings::BROKEN_DOWN;
+use warnings::STOPPED;
 
 fn go_on(b: bool, n: u32) -> u32
     requires { ⌜ n ≤ 10000000 ⌝ }
@@ -123,7 +123,7 @@ fn cycle_after(goes_on: bool, now: Conditions, c: Cycle) -> Cycle
 pub(crate) fn rank(warning: u8) -> u8
     ensures { λ r. ⌜ r ≡ rank warning ⌝ }
 {
-    let row = message::row_of(warning);
+    let row = warnings::row_of(warning);
     row.rank
 }
 

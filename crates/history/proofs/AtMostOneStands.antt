@@ -9,9 +9,9 @@ use Prim.Native.Nat.{ℕ, _+_}
 use native.Mathlib.Omega.{arith}
 use lib.Dec.{eqb}
 use borrow.Author.Tests.{eq-eqb, ne-eqb}
+use Rattle.warnings.specs.Warnings.{new, update}
 use Rattle.sample.specs.declared.Sample.{Sample}
 use Rattle.message.specs.declared.Message.{Message}
-use Rattle.message.specs.Warnings.{new, update}
 use Rattle.history.specs.declared.Notice.{Notice}
 use Rattle.history.specs.declared.Notice.the-variants.{Nothing, Sent}
 use Rattle.history.specs.declared.View.{View}

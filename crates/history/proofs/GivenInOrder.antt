@@ -5,9 +5,9 @@ use mathlib.Core.Bool.{Bool, true, false, cond, false≢true}
 use mathlib.Core.List.{List, [], _∷_, _++_, reverseAux, reverseAux-append}
 use Prim.Native.Nat.{ℕ, _+_}
 use lib.Dec.{eqb}
+use Rattle.warnings.specs.Warnings.{new, update, cancel}
 use Rattle.sample.specs.declared.Sample.{Sample}
 use Rattle.message.specs.declared.Message.{Message}
-use Rattle.message.specs.Warnings.{new, update, cancel}
 use Rattle.history.specs.declared.Notice.{Notice}
 use Rattle.history.specs.declared.Notice.the-variants.{Nothing, Sent}
 use Rattle.history.specs.declared.View.{View}

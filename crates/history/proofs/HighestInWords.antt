@@ -11,8 +11,8 @@ use lib.Dec.{T, ltb, eqb}
 use lib.Ieee.Fits.{and-r}
 use lib.ListN.{length, getD}
 use Rattle.wire.proofs.Tests.{both-true}
-use Rattle.message.specs.Warnings.{warningCount, byRank, rowOf}
-use Rattle.message.proofs.Table.{falling, falling-below, by-rank-falls, by-rank-has}
+use Rattle.warnings.specs.Warnings.{warningCount, byRank, rowOf}
+use Rattle.warnings.proofs.Table.{falling, falling-below, by-rank-falls, by-rank-has}
 use Rattle.history.specs.declared.View.{View}
 use Rattle.history.specs.Rules.{Settings, rank, standingRank, cycleTriggers, crashTriggers, triggers, overrules, highestOf, highest}
 use Rattle.history.specs.TickWords.{TheHighest}

@@ -9,13 +9,13 @@ use borrow.Author.Tests.{ne-eqb}
 use lib.Dec.{T, eqb}
 use Rattle.wire.specs.Outcome.{firstFault}
 use Rattle.wire.proofs.Tests.{true-holds}
+use Rattle.warnings.specs.Warnings.{new, update, postCrash, warningCount}
 use Rattle.sample.specs.declared.Sample.{Sample}
 use Rattle.sample.specs.Sample.{sampleChecks}
 use Rattle.sample.proofs.AcceptedFields.{Fields, fields-clear}
 use Rattle.filter.specs.Filter.{Valid}
 use Rattle.filter.proofs.StaysInRange.{next-valid}
 use Rattle.message.specs.declared.Message.{Message}
-use Rattle.message.specs.Warnings.{new, update, warningCount}
 use Rattle.message.specs.Message.{admits}
 use Rattle.message.proofs.Admitted.{Admitted, admits-it}
 use Rattle.history.specs.declared.Notice.{Notice}
@@ -88,7 +88,7 @@ module _ (x : Sample) (past : Past) (r : Reached past) (f : Fields x) (few : siz
 
     cancel-by-now : lastCancel (cancelOf (size past) m ∷ ms) ≤ size past
     unfolding lastCancel cancelOf
-    cancel-by-now = either (λ (k : ℕ). k ≤ size past) (eqb (m .warning) 3) (omega arith) (r .last-cancel-by-now)
+    cancel-by-now = either (λ (k : ℕ). k ≤ size past) (eqb (m .warning) postCrash) (omega arith) (r .last-cancel-by-now)
 
     -- "2. The standing one is cancelled"
     cancel-fits : Fits (record { cancel = cancelStanding (size past) (Sent m); report = Nothing })
@@ -184,7 +184,7 @@ module _ (x : Sample) (past : Past) (r : Reached past) (f : Fields x) (few : siz
     raise-fits Nothing s outranked = ((admits-it _ new-admitted, tt), new-reached _ ms refl refl refl (r .last-cancel-by-now) (λ q. refl))
     raise-fits (Sent m) s outranked =
         let not-3 : warning ≡ 3 → m .warning ≡ 3 → ⊥ = λ q e. let z : rank (m .warning) ≡ rank warning = cc in omega arith in
-        ((cancel-passes m s, (admits-it _ new-admitted, tt)), new-reached _ (cancelOf (size past) m ∷ ms) refl refl refl (cancel-by-now m s) (λ q. rw (ne-eqb (m .warning) 3 (not-3 q))))
+        ((cancel-passes m s, (admits-it _ new-admitted, tt)), new-reached _ (cancelOf (size past) m ∷ ms) refl refl refl (cancel-by-now m s) (λ q. rw (ne-eqb (m .warning) postCrash (not-3 q))))
 
   -- "A warning outranking the standing one triggers (with none standing, any)"
   overrule-fits : (S : Settings) (warning : ℕ) → Overruling S v warning → Fits (raise v warning)

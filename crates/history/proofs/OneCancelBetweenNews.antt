@@ -6,9 +6,9 @@ use mathlib.Core.List.{List, [], _∷_, _++_, reverseAux, reverseAux-append}
 use Prim.Native.Nat.{_+_}
 use native.Mathlib.Omega.{arith}
 use borrow.Author.Tests.{eqb-true}
+use Rattle.warnings.specs.Warnings.{new}
 use Rattle.sample.specs.declared.Sample.{Sample}
 use Rattle.message.specs.declared.Message.{Message}
-use Rattle.message.specs.Warnings.{new}
 use Rattle.history.specs.Rules.{Settings}
 use Rattle.history.specs.History.{isNew, messages, events, givenDuring}
 use Rattle.history.specs.Standing.{cancels}

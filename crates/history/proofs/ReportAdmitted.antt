@@ -6,11 +6,11 @@ use Prim.Native.Nat.{ℕ, _-_, _/_, _≤_}
 use native.Mathlib.Omega.{arith}
 use borrow.Author.Tests.{eq-eqb, eqb-true}
 use lib.Dec.{ltb, leb, eqb, leb→le}
+use Rattle.warnings.specs.Warnings.{update, cancel, postCrash, warningCount, rowOf}
+use Rattle.warnings.proofs.Table.{each-passes}
 use Rattle.sample.specs.Sample.{switchesOf}
 use Rattle.sample.proofs.AcceptedFields.{Fields}
 use Rattle.message.specs.declared.Message.{Message}
-use Rattle.message.specs.Warnings.{update, cancel, warningCount, rowOf}
-use Rattle.message.proofs.Table.{each-passes}
 use Rattle.message.proofs.Admitted.{Admitted}
 use Rattle.message.proofs.DerivedAdmitted.{road-type-admitted, validity-admitted}
 use Rattle.history.specs.declared.View.{View}
@@ -29,10 +29,10 @@ qualities-admitted warning low high = leb→le _ _ (each-passes (λ w. leb 3 (ro
 quality-from-1-to-3 : (v : View) (warning g : ℕ) → (warning ≡ 3 → 1 ≤ g) → g ≤ 3
     → (1 ≤ qualityOf v warning g) × (qualityOf v warning g ≤ 3)
 unfolding qualityOf
-quality-from-1-to-3 v warning g low high = go (eqb warning 3) (v .expiring) (v .shortening) refl
+quality-from-1-to-3 v warning g low high = go (eqb warning postCrash) (v .expiring) (v .shortening) refl
   where
-    go : (b e s : Bool) → eqb warning 3 ≡ b → (1 ≤ cond b g (cond e 3 (cond s 2 1))) × (cond b g (cond e 3 (cond s 2 1)) ≤ 3)
-    go true e s q = (low (eqb-true warning 3 q), high)
+    go : (b e s : Bool) → eqb warning postCrash ≡ b → (1 ≤ cond b g (cond e 3 (cond s 2 1))) × (cond b g (cond e 3 (cond s 2 1)) ≤ 3)
+    go true e s q = (low (eqb-true warning postCrash q), high)
     go false true s q = (omega arith, omega arith)
     go false false true q = (omega arith, omega arith)
     go false false false q = (omega arith, omega arith)

@@ -4,13 +4,13 @@ use Prim.Native.Nat.{ℕ, _+_, _-_, max}
 use mathlib.Core.Bool.{Bool, false, not, _&&_, _||_, cond}
 use mathlib.Core.List.{List, [], _∷_, _++_, reverseAux}
 use lib.Dec.{leb, ltb, eqb}
+use Rattle.warnings.specs.Warnings.{new, cancel, stopped, brokenDown, postCrash}
 use Rattle.sample.specs.declared.Sample.{Sample}
 use Rattle.sample.specs.Sample.{switchesOf, happeningsOf, hasReading}
 use Rattle.filter.specs.declared.Filter.{Filter}
 use Rattle.filter.specs.declared.Filter.the-variants.{Empty}
 use Rattle.filter.specs.Filter.{next, atMost8}
 use Rattle.message.specs.declared.Message.{Message}
-use Rattle.message.specs.Warnings.{new, cancel, stopped, brokenDown, postCrash}
 use Rattle.history.specs.declared.Notice.{Notice}
 use Rattle.history.specs.declared.Notice.the-variants.{Nothing, Sent}
 use Rattle.history.specs.declared.Cycle.{Cycle}

@@ -6,7 +6,7 @@ use mathlib.Core.Bool.{Bool, true, false}
 use mathlib.Core.List.{List, [], _∷_, map}
 use lib.IntN.{pos}
 use lib.ListN.{getD, set, drop, replicate}
-use Rattle.sample.specs.Examples.{numbersFrom}
+use Rattle.wire.specs.EveryByte.{numbersFrom}
 use Rattle.filter.specs.declared.Filter.the-variants.{Empty}
 use Rattle.message.specs.Examples.{message}
 use Rattle.history.specs.declared.Notice.{Notice}

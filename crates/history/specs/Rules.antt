@@ -6,10 +6,10 @@ use mathlib.Core.List.{List, [], _∷_, _++_}
 use lib.Dec.{leb, ltb, eqb}
 use lib.IntN.{ℤ, natAbs, _-ℤ_}
 use lib.ListN.{getD}
+use Rattle.warnings.specs.Warnings.{new, update, cancel, postCrash, byRank, rowOf, validityOf, roadTypeOf}
 use Rattle.sample.specs.declared.Position.{Position}
 use Rattle.sample.specs.Sample.{switchesOf}
 use Rattle.message.specs.declared.Message.{Message}
-use Rattle.message.specs.Warnings.{new, update, cancel, postCrash, byRank, rowOf, validityOf, roadTypeOf}
 use Rattle.history.specs.declared.Notice.{Notice}
 use Rattle.history.specs.declared.Notice.the-variants.{Nothing, Sent}
 use Rattle.history.specs.declared.Cycle.{Cycle}

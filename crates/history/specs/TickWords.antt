@@ -8,11 +8,11 @@ use Prim.Native.Nat.{ℕ, _+_, _-_, _*_, _≤_, _<_}
 use lib.Dec.{eqb}
 use lib.IntN.{pos, _+ℤ_, _-ℤ_, _*ℤ_}
 use lib.Signed.{_<ℤ_}
+use Rattle.warnings.specs.Warnings.{postCrash, validityOf, roadTypeOf}
 use Rattle.sample.specs.declared.Position.{Position}
 use Rattle.sample.specs.declared.Sample.{Sample}
 use Rattle.sample.specs.Sample.{switchesOf}
 use Rattle.message.specs.declared.Message.{Message}
-use Rattle.message.specs.Warnings.{validityOf, roadTypeOf}
 use Rattle.history.specs.declared.View.{View}
 use Rattle.history.specs.Rules.{Settings, rank, overrules}
 use Rattle.history.specs.History.{Past, Fact, never, size, stationary, parked, idling, braked, belted, ignited, doorOpen, bootOpen, bonnetOpen, conditionA, conditionB, conditionC, conditionD, oneOfEtoH, isNew, isCancel, ready, ecallPressed, lowSeverity, highSeverity}
@@ -99,7 +99,7 @@ pub record CycleTriggers (S : Settings) (warning : ℕ) (h : Past) (i : ℕ) : T
 -- ---- the happenings of warning 3
 
 abbrev pub ownCancel : Message → Bool
-ownCancel m = isCancel m && eqb (m .warning) 3
+ownCancel m = isCancel m && eqb (m .warning) postCrash
 
 -- "its own last Cancel": c, of the messages, the newest first
 pub record LastCancel (ms : List Message) (c : Message) : Type 0 where

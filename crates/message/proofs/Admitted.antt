@@ -5,8 +5,8 @@ use Prim.Native.Nat.{ℕ, _≤_}
 use lib.Dec.{T, leb, eqb, leb→le, le→leb}
 use lib.ListN.{getD}
 use Rattle.wire.proofs.Tests.{holds-at, holds-all}
+use Rattle.warnings.specs.Warnings.{cancel, warningCount, rowOf, validityOf}
 use Rattle.sample.specs.Sample.{beyond}
-use Rattle.message.specs.Warnings.{cancel, warningCount, rowOf, validityOf}
 use Rattle.message.specs.Message.{fieldTests, admits}
 use Rattle.message.specs.declared.Message.{Message}
 

@@ -5,7 +5,7 @@ use mathlib.Core.Bool.{Bool, true, false, _||_, cond, or-true}
 use Prim.Native.Nat.{ℕ}
 use borrow.Author.Tests.{eq-eqb}
 use lib.Dec.{T, leb, eqb}
-use Rattle.message.specs.Warnings.{validityOf, roadTypeOf}
+use Rattle.warnings.specs.Warnings.{validityOf, roadTypeOf}
 
 -- "roadType: 0 .., 1 .., 2 .., 3 .., and 255 (omitted)"
 pub road-type-admitted : (road : ℕ) → T (leb (roadTypeOf road) 3 || eqb (roadTypeOf road) 255)

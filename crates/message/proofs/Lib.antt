@@ -1,4 +1,3 @@
-pub mod Table
 pub mod Admitted
 pub mod RoundTrip
 pub mod DerivedAdmitted

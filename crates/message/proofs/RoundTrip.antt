@@ -23,13 +23,13 @@ use Rattle.wire.proofs.Splice.{overlay-take}
 use Rattle.wire.proofs.Tests.{holds-at, holds-true, true-holds, neither}
 use lib.Ieee.Fits.{and-l, and-r}
 use Rattle.wire.proofs.TwosComplement.{signed-again}
+use Rattle.warnings.specs.Warnings.{rowOf, directionOf, validityOf}
+use Rattle.warnings.proofs.Table.{validity-below}
 use Rattle.sample.specs.Sample.{outside, beyond}
 use Rattle.sample.specs.declared.Position.{Position}
-use Rattle.message.specs.Warnings.{rowOf, directionOf, validityOf}
 use Rattle.message.specs.Message.{encode, messageOf, derivedFit, admits, messageRead, reading, writeFault, Found, Written}
 use Rattle.message.specs.declared.Message.{Message}
 use Rattle.message.specs.declared.Reading.{Reading}
-use Rattle.message.proofs.Table.{validity-below}
 use Rattle.message.proofs.Admitted.{admitted}
 
 -- ---- written, then read

@@ -1,8 +1,8 @@
--- The message record by examples: the table per warning, road and direction, nine messages in bytes, the bounds and the order of its checks, after document 01, "The message" and "What is turned down".
+-- The message record by examples: nine messages in bytes, the bounds and the order of its checks, after document 01, "The message" and "What is turned down".
 -- Assumes nothing.
 use Prim.Native.Nat.{ℕ, _-_}
 use mathlib.Core.Path.{_≡_}
-use mathlib.Core.Bool.{true, false, cond, _||_}
+use mathlib.Core.Bool.{false, cond, _||_}
 use mathlib.Core.List.{List, [], _∷_, _++_, map, foldl}
 use lib.Dec.{eqb}
 use lib.IntN.{ℤ, pos}
@@ -10,36 +10,11 @@ use lib.ListN.{getD, take}
 use Rattle.wire.specs.Words.{bytesOf}
 use Rattle.wire.specs.Memory.{splice}
 use Rattle.wire.specs.Outcome.{accepted, refused}
-use Rattle.sample.specs.Examples.{refusals, refusalsAt, refusalsOfByte, everyByte, forBytes, minus, coordinates}
+use Rattle.wire.specs.EveryByte.{everyByte}
+use Rattle.sample.specs.Examples.{refusals, refusalsAt, refusalsOfByte, minus, coordinates}
 use Rattle.message.specs.declared.Message.{Message}
-use Rattle.message.specs.declared.Row.{Row}
 use Rattle.message.specs.declared.Reading.the-variants.{Accepted, Refused}
-use Rattle.message.specs.Warnings.{rowOf, validityOf, roadTypeOf, directionOf}
 use Rattle.message.specs.Message.{encode, messageOf, messageRead, reading, writeFault}
-
--- ---- the table
-
--- cause, sub cause, relevance distance code, traffic class, rank, highest kind, greatest quality, update period, cancel delay, validity with ignition on and off
-abbrev pub row : ℕ → ℕ → ℕ → ℕ → ℕ → ℕ → ℕ → ℕ → ℕ → ℕ → ℕ → Row
-row cause subcause relevance trafficclass rank kinds qualities period delay validityon validityoff = record {
-  cause = cause;
-  subcause = subcause;
-  relevance = relevance;
-  trafficclass = trafficclass;
-  rank = rank;
-  kinds = kinds;
-  qualities = qualities;
-  period = period;
-  delay = delay;
-  validityon = validityon;
-  validityoff = validityoff;
-}
-
--- the warnings, and on each side a number that is none
-abbrev pub zeroToFour : List ℕ
-zeroToFour = 0 ∷ 1 ∷ 2 ∷ 3 ∷ 4 ∷ []
-
--- ---- records
 
 -- kind, warning, quality, roadType, stationarySince, event, detection, reference, east, north, heading, validity
 abbrev pub message : ℕ → ℕ → ℕ → ℕ → ℕ → ℕ → ℕ → ℕ → ℤ → ℤ → ℕ → ℕ → Message
@@ -128,21 +103,6 @@ abbrev pub ofQuality : ℕ → Message
 ofQuality quality = message 1 1 quality 0 0 1 2 2 (pos 3) (pos 4) 5 30
 
 pub record MessageExamples : Type 0 where
-  -- "2 sub cause 0, 2, 3 for warnings 1, 2, 3; 3 cause 94", "Relevance distance code 4, traffic class 1.", "a higher number outranks", "150 ticks (warning 3: 600, U)", "i-50 to i (warning 3: i-150 to i, U)", "warning 1: 30; 2: 30 with ignition on, else 180 (U); 3: 180 (U)"
-  pub rows : map rowOf zeroToFour
-      ≡ row 0 0 0 0 0 0 0 0 0 0 0
-      ∷ row 94 0 4 1 1 3 3 150 50 30 30
-      ∷ row 94 2 4 1 2 3 3 150 50 30 180
-      ∷ row 94 3 4 1 3 3 3 600 150 180 180
-      ∷ row 0 0 0 0 0 0 0 0 0 0 0
-      ∷ []
-  -- "Validity: warning 1: 30; 2: 30 with ignition on, else 180 (U); 3: 180 (U)."
-  pub validity-on : map (λ w. validityOf w true) zeroToFour ≡ 0 ∷ 30 ∷ 30 ∷ 180 ∷ 0 ∷ []
-  pub validity-off : map (λ w. validityOf w false) zeroToFour ≡ 0 ∷ 30 ∷ 180 ∷ 180 ∷ 0 ∷ []
-  -- "5 roadType: 0 for roads 1 and 3, 1 for 2, 2 for 4 and 6, 3 for 5, and 255 (omitted) for 0", and for any that is refused
-  pub road-types : map roadTypeOf everyByte ≡ forBytes (255 ∷ 0 ∷ 1 ∷ 0 ∷ 2 ∷ 3 ∷ 2 ∷ []) 255
-  -- "6 direction, 1 upstream for roadType 1 and 3, else 0"
-  pub directions : map directionOf everyByte ≡ forBytes (0 ∷ 1 ∷ 0 ∷ 1 ∷ []) 0
   -- "32 bytes, little-endian"
   pub written : map (λ e. encode (e .fields)) nine ≡ map (λ e. e .bytes) nine
   pub read-back : map (λ e. messageRead (e .bytes)) nine ≡ map (λ e. accepted (e .fields)) nine

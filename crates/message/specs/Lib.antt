@@ -1,3 +1,2 @@
-pub mod Warnings
 pub mod Message
 pub mod Examples

@@ -14,8 +14,8 @@ use Rattle.wire.specs.declared.Answer.{Answer}
 use Rattle.wire.specs.declared.Answer.the-variants.{Given}
 use Rattle.wire.specs.Memory.{memory}
 use Rattle.wire.specs.Outcome.{check, firstFault, Outcome, accepted, refused, outcome, answered}
+use Rattle.warnings.specs.Warnings.{new, cancel, warningCount, rowOf, validityOf, directionOf}
 use Rattle.sample.specs.Sample.{beyond}
-use Rattle.message.specs.Warnings.{new, cancel, warningCount, rowOf, validityOf, directionOf}
 use Rattle.message.specs.declared.Message.{Message}
 use Rattle.message.specs.declared.Reading.{Reading}
 use Rattle.message.specs.declared.Reading.the-variants.{Accepted, Refused}

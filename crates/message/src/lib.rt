@@ -1,29 +1,12 @@
-// The 32-byte message record: its reader, its writer, and what its fields are by warning and by road.
+// The 32-byte message record: its reader and its writer.
 ghost use mathlib.Core.Path.{_≡_};
 ghost use lib.ListN.{length};
-ghost use Rattle.message.specs.Warnings.{rowOf, validityOf, roadTypeOf, directionOf};
 ghost use Rattle.message.specs.Message.{messageOf, encode, admits, derivedFit, Found, Written};
 use sample::Position;
+use warnings::CANCEL;
+use warnings::NEW;
+use warnings::WARNINGS;
 use wire::Answer;
-
-// The kinds of a message.
-pub const NEW: u8 = 1;
-
-pub const UPDATE: u8 = 2;
-
-pub const CANCEL: u8 = 3;
-
-// The warnings, which are the numbers from 1 to the count of them.
-pub const STOPPED: u8 = 1;
-
-pub const BROKEN_DOWN: u8 = 2;
-
-pub const POST_CRASH: u8 = 3;
-
-pub const WARNINGS: u8 = 3;
-
-// The warnings, the highest rank first.
-pub const BY_RANK: [u8; WARNINGS as usize] = [POST_CRASH, BROKEN_DOWN, STOPPED];
 
 // The record's own numbers; sub cause, cause and direction follow from the warning and the road type.
 pub struct Message {
@@ -45,64 +28,6 @@ pub enum Reading {
     Accepted(Message),
     Refused(u8),
 }
-
-// What is constant for a warning: for the record and for the sender, its rank, the highest kind and the greatest quality
-// that refusal 14 admits, ticks for the engine, and seconds of validity with ignition on and off.
-pub struct Row {
-    pub cause: u8,
-    pub subcause: u8,
-    pub relevance: u8,
-    pub trafficclass: u8,
-    pub rank: u8,
-    pub kinds: u8,
-    pub qualities: u8,
-    pub period: u32,
-    pub delay: u32,
-    pub validityon: u16,
-    pub validityoff: u16,
-}
-
-const ROWS: [Row; WARNINGS as usize] = [
-    Row {
-        cause: 94,
-        subcause: 0,
-        relevance: 4,
-        trafficclass: 1,
-        rank: 1,
-        kinds: CANCEL,
-        qualities: 3,
-        period: 150,
-        delay: 50,
-        validityon: 30,
-        validityoff: 30,
-    },
-    Row {
-        cause: 94,
-        subcause: 2,
-        relevance: 4,
-        trafficclass: 1,
-        rank: 2,
-        kinds: CANCEL,
-        qualities: 3,
-        period: 150,
-        delay: 50,
-        validityon: 30,
-        validityoff: 180,
-    },
-    Row {
-        cause: 94,
-        subcause: 3,
-        relevance: 4,
-        trafficclass: 1,
-        rank: 3,
-        kinds: CANCEL,
-        qualities: 3,
-        period: 600,
-        delay: 150,
-        validityon: 180,
-        validityoff: 180,
-    },
-];
 
 pub fn read(bytes: &[u8]) -> Reading
     ensures { λ r. ⌜ Found (now (bytes .entry)) r ⌝ }
@@ -158,8 +83,8 @@ pub fn write(m: Message, out: &mut [u8]) -> Answer
 pub fn encoded(m: Message) -> [u8; 32]
     ensures { λ r. ⌜ r ≡ encode m ⌝ }
 {
-    let row = row_of(m.warning);
-    let w = direction_of(m.roadtype);
+    let row = warnings::row_of(m.warning);
+    let w = warnings::direction_of(m.roadtype);
     let p = m.position;
     let e = wire::bytes32(m.event);
     let d = wire::bytes32(m.detection);
@@ -204,71 +129,13 @@ pub fn encoded(m: Message) -> [u8; 32]
     ]
 }
 
-// The table's row of a warning; zeros for a number that is no warning.
-pub fn row_of(warning: u8) -> Row
-    ensures { λ r. ⌜ r ≡ rowOf warning ⌝ }
-{
-    match warning {
-        1..=WARNINGS => {
-            let i = (warning - 1) as usize;
-            ROWS[i]
-        }
-        _ => Row {
-            cause: 0,
-            subcause: 0,
-            relevance: 0,
-            trafficclass: 0,
-            rank: 0,
-            kinds: 0,
-            qualities: 0,
-            period: 0,
-            delay: 0,
-            validityon: 0,
-            validityoff: 0,
-        },
-    }
-}
-
-// How long a message stays valid, in seconds; 0 for a number that is no warning.
-pub fn validity_of(warning: u8, ignition: bool) -> u16
-    ensures { λ r. ⌜ r ≡ validityOf warning ignition ⌝ }
-{
-    let row = row_of(warning);
-    if ignition {
-        row.validityon
-    } else {
-        row.validityoff
-    }
-}
-
-pub fn road_type_of(road: u8) -> u8
-    ensures { λ r. ⌜ r ≡ roadTypeOf road ⌝ }
-{
-    match road {
-        1 | 3 => 0,
-        2 => 1,
-        4 | 6 => 2,
-        5 => 3,
-        _ => 255,
-    }
-}
-
-fn direction_of(roadtype: u8) -> u8
-    ensures { λ r. ⌜ r ≡ directionOf roadtype ⌝ }
-{
-    match roadtype {
-        1 | 3 => 1,
-        _ => 0,
-    }
-}
-
 impl Message {
     // Whether each field has a value that refusal 14 lets pass.
     pub fn is_admitted(self) -> bool
         ensures { λ r. ⌜ r ≡ admits self ⌝ }
     {
         let p = self.position;
-        let row = row_of(self.warning);
+        let row = warnings::row_of(self.warning);
         (NEW <= self.kind)
             & (self.kind <= row.kinds)
             & (1 <= self.warning)
@@ -293,7 +160,7 @@ fn is_derived(s: &[u8]) -> bool
     requires { ⌜ length (now s) ≡ 32 ⌝ }
     ensures { λ r. ⌜ r ≡ derivedFit (now (s .entry)) ⌝ }
 {
-    let row = row_of(s[1]);
-    let w = direction_of(s[5]);
+    let row = warnings::row_of(s[1]);
+    let w = warnings::direction_of(s[5]);
     (s[2] == row.subcause) & (s[3] == row.cause) & (s[6] == w)
 }

@@ -4,7 +4,7 @@ ghost use Rattle.history.specs.Ranges.{standingInRange, within, stateInRange};
 use history::Notice;
 use history::RUNS;
 use history::State;
-use message::CANCEL;
+use warnings::CANCEL;
 
 fn standing_in_range(n: u32, standing: Notice) -> bool
     ensures { λ r. ⌜ r ≡ standingInRange n standing ⌝ }

@@ -6,13 +6,14 @@ use Prim.Native.Nat.{ℕ, _+_, _^_, _≤_, _<_}
 use native.Mathlib.Omega.{arith}
 use lib.Dec.{eqb}
 use lib.ListN.{length, length-append}
+use Rattle.warnings.specs.Warnings.{new, update, cancel}
 use Rattle.message.specs.declared.Message.{Message}
 use Rattle.report.specs.Lines.{ascii, decimal, line, letterOf, messageLine, closingLine, refusalLine}
 use Rattle.report.proofs.Decimal.{length-at-most}
 
 letter-length : (kind : ℕ) → length (letterOf kind) ≡ 1
 unfolding letterOf ascii
-letter-length kind = go (eqb kind 1) (eqb kind 2) (eqb kind 3)
+letter-length kind = go (eqb kind new) (eqb kind update) (eqb kind cancel)
   where
     go : (a b c : Bool) → length (cond a (ascii "N") (cond b (ascii "U") (cond c (ascii "C") (ascii "?")))) ≡ 1
     go true b c = refl

@@ -9,6 +9,7 @@ use lib.Dec.{ltb, eqb}
 use lib.ListN.{length}
 use Rattle.wire.specs.Memory.{memory}
 use Rattle.wire.specs.Outcome.{check, firstFault, Outcome, outcome}
+use Rattle.warnings.specs.Warnings.{new, update, cancel}
 use Rattle.message.specs.declared.Message.{Message}
 
 -- the bytes of a text
@@ -48,9 +49,9 @@ line (word ∷ next ∷ words) = word ++ (ascii " " ++ line (next ∷ words))
 -- "N, U or C", for New, Update and Cancel; a question mark for a number that is no kind
 unfoldable pub letterOf : ℕ → List ℕ
 letterOf kind =
-    cond (eqb kind 1) (ascii "N")
-    (cond (eqb kind 2) (ascii "U")
-    (cond (eqb kind 3) (ascii "C") (ascii "?")))
+    cond (eqb kind new) (ascii "N")
+    (cond (eqb kind update) (ascii "U")
+    (cond (eqb kind cancel) (ascii "C") (ascii "?")))
 
 -- "prints for each message: reference tick, N, U or C, warning, quality, event"
 unfoldable pub messageLine : Message → List ℕ

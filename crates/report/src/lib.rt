@@ -7,6 +7,9 @@ ghost use lib.ListN.{length, drop};
 ghost use Rattle.wire.specs.Outcome.{answered};
 ghost use Rattle.report.specs.Lines.{decimal, letterOf, messageLine, closingLine, refusalLine, lineWrite, lineMemory};
 use message::Message;
+use warnings::CANCEL;
+use warnings::NEW;
+use warnings::UPDATE;
 use wire::Answer;
 
 // Writes the line of a message to the start of `out` and answers its length.
@@ -89,9 +92,9 @@ fn letter(kind: u8) -> u8
     ensures { λ r. ⌜ r ∷ [] ≡ letterOf kind ⌝ }
 {
     match kind {
-        1 => b'N',
-        2 => b'U',
-        3 => b'C',
+        NEW => b'N',
+        UPDATE => b'U',
+        CANCEL => b'C',
         _ => b'?',
     }
 }

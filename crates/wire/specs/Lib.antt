@@ -2,3 +2,4 @@ pub mod Words
 pub mod Memory
 pub mod Outcome
 pub mod Tests
+pub mod EveryByte

@@ -1,8 +1,8 @@
 use mathlib.Core.Path.{refl, ap}
 use mathlib.Core.Bool.{not}
 use native.Mathlib.Omega.{arith}
+use Rattle.checks.proofs.CallFaults.{block-length, block-room, block-range}
 use Rattle.engine.specs.Calls.{lent, callFault}
-use Rattle.engine.proofs.CallFaults.{block-length, block-room, block-range}
 use Rattle.image.proofs.Loaded.{accepted-image, refused-image}
 use Rattle.capi.specs.Imaged.{imageFault}
 use Rattle.capi.proofs.Counts.{call-count}

@@ -6,10 +6,10 @@ use mir.Syntax.{w32}
 use mir.Val.{ofZ}
 use Rattle.wire.specs.Words.{bytesOf}
 use Rattle.wire.proofs.TwosComplement.{signed-again}
-use Rattle.message.specs.Warnings.{rowOf, directionOf}
+use Rattle.warnings.specs.Warnings.{rowOf, directionOf}
+use Rattle.warnings.specs.declared.Row.{Row}
 use Rattle.message.specs.Message.{encode}
 use Rattle.message.specs.declared.Message.{Message}
-use Rattle.message.specs.declared.Row.{Row}
 use borrow.Author.Needs.{needs}
 use Rattle.message.proofs.encoded.Statement.{statement}
 use Rattle.message.proofs.encoded.Tie as tie

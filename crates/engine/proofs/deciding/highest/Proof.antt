@@ -3,7 +3,7 @@ use Prim.Native.Nat.{_-_, _≤_}
 use native.Mathlib.Omega.{arith}
 use lib.ListN.{drop}
 use borrow.Author.Needs.{needs}
-use Rattle.message.specs.Warnings.{warningCount, byRank}
+use Rattle.warnings.specs.Warnings.{warningCount, byRank}
 use Rattle.history.specs.Rules.{unitSettings}
 use Rattle.engine.proofs.HighestFound.{firstBy, listed-small, passes, found-highest, none-highest}
 use Rattle.engine.proofs.deciding.highest.Statement.{statement}

@@ -1,5 +1,5 @@
 use Rattle.wire.specs.Tests.{allHold}
-use Rattle.message.specs.Warnings.{validityOf}
+use Rattle.warnings.specs.Warnings.{validityOf}
 use Rattle.message.specs.Message.{fieldTests, admits}
 use borrow.Author.Needs.{needs}
 use Rattle.message.proofs.Message.is_admitted.Statement.{statement}

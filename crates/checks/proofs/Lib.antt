@@ -1,0 +1,3 @@
+pub mod SamplesInTurn
+pub mod CallFaults
+pub mod OrderOfChecksHolds
