@@ -2,12 +2,12 @@
 -- Assumes nothing.
 use mathlib.Core.Path.{_≡_, refl, _∙_}
 use mathlib.Core.Bool.{Bool, true, false}
-use mathlib.Core.List.{List, [], _∷_, _++_}
+use mathlib.Core.List.{List, [], _∷_}
 use Prim.Native.Nat.{ℕ, zero, suc, _+_, _*_, _/_, _%_, _^_, _≤_, _<_}
 use native.Mathlib.Nat.{pow-suc, div-lt-iff-lt-mul}
 use native.Mathlib.Numerals.{add-one}
 use native.Mathlib.Omega.{arith}
-use lib.ListN.{length, getD, take, drop, replicate, List·getD-eq-default}
+use lib.ListN.{length, getD, take, drop, List·getD-eq-default}
 use lib.Dec.{ltb}
 use lib.Seq.{drop-cons, take-all, getD-take}
 use borrow.Author.Tests.{ltb-true, ltb-false}
@@ -87,17 +87,3 @@ bytesAt-same (suc k) s t p h = rw (h p (omega arith), bytesAt-same k s t (p + 1)
 -- so they are in a part that reaches beyond them
 pub bytesAt-take : (k n : ℕ) (s : List ℕ) (p : ℕ) → p + k ≤ n → bytesAt k (take n s) p ≡ bytesAt k s p
 bytesAt-take k n s p h = bytesAt-same k (take n s) s p (λ i l. getD-take n s i 0 (omega arith))
-
--- and in the list with zeros behind it, since bytes beyond the end count as 0
-getD-zeros : (n i : ℕ) → _≡_ {A = ℕ} (getD (replicate n 0) i 0) 0
-getD-zeros zero i = refl
-getD-zeros (suc n) zero = refl
-getD-zeros (suc n) (suc i) = getD-zeros n i
-
-getD-padded : (s : List ℕ) (n i : ℕ) → getD (s ++ replicate n 0) i 0 ≡ getD s i 0
-getD-padded [] n i = getD-zeros n i
-getD-padded (x ∷ s) n zero = refl
-getD-padded (x ∷ s) n (suc i) = getD-padded s n i
-
-pub bytesAt-padded : (k : ℕ) (s : List ℕ) (n p : ℕ) → bytesAt k (s ++ replicate n 0) p ≡ bytesAt k s p
-bytesAt-padded k s n p = bytesAt-same k (s ++ replicate n 0) s p (λ i l. getD-padded s n i)
