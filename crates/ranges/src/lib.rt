@@ -1,10 +1,44 @@
-// The ranges of refusal 21.
+// The fresh state, and the ranges of refusal 21.
 ghost use mathlib.Core.Path.{_≡_};
+ghost use Rattle.history.specs.State.{fresh};
 ghost use Rattle.history.specs.Ranges.{standingInRange, within, stateInRange};
+use filter::Filter;
+use history::Cycle;
+use history::Log;
 use history::Notice;
 use history::RUNS;
 use history::State;
 use warnings::CANCEL;
+
+const NO_CYCLE: Cycle = Cycle {
+    ticks: 0,
+    park: false,
+    idle: false,
+    brake: false,
+    belt: false,
+    expiring: false,
+};
+
+// The state of an engine that has taken no sample.
+pub fn fresh_state() -> State
+    ensures { λ r. ⌜ r ≡ fresh ⌝ }
+{
+    State {
+        taken: 0,
+        filter: Filter::Empty,
+        ignition: false,
+        runs: [0; RUNS],
+        stoppedcycle: NO_CYCLE,
+        brokendowncycle: NO_CYCLE,
+        log: Log {
+            standing: Notice::Nothing,
+            started: 0,
+            counted: 0,
+            lastcancel: 0,
+            events: 0,
+        },
+    }
+}
 
 fn standing_in_range(n: u32, standing: Notice) -> bool
     ensures { λ r. ⌜ r ≡ standingInRange n standing ⌝ }
