@@ -11,6 +11,7 @@ use lib.IntN.{ℤ, pos, negℤ}
 use lib.ListN.{length, drop, drop-of-length-le}
 use mir.Syntax.{w32}
 use mir.Val.{toZ, ofZ, SFits}
+use Rattle.wire.specs.declared.Answer.{Answer}
 use Rattle.wire.specs.Memory.{splice, overlay}
 use Rattle.wire.specs.Outcome.{accepted, refused, outcome, answered}
 use Rattle.wire.proofs.FirstFault.{outcome-refused, memory-refused}
@@ -20,10 +21,8 @@ use Rattle.history.specs.declared.State.{State}
 use Rattle.history.specs.Rules.{unitSettings}
 use Rattle.history.specs.Runs.{runCount}
 use Rattle.history.specs.State.{stateAfter, stepsGive}
-use Rattle.engine.specs.declared.Engine.{Engine}
-use Rattle.engine.specs.declared.Called.{Called}
-use Rattle.engine.specs.Calls.{Call, lent, samplesAdded, callEngine, callAnswer, callMemory, engineFault, Meets}
-use Rattle.image.specs.Image.{imageSize, imageOf, stateIn, engineIn, isImage}
+use Rattle.calls.specs.Calls.{Call, lent, samplesAdded, callState, callAnswer, callMemory, stateFault, Meets}
+use Rattle.image.specs.Image.{imageSize, imageOf, stateIn, isImage}
 use Rattle.image.proofs.NumbersIn.{runs-in-length}
 use Rattle.image.proofs.RunsKept.{runs-kept}
 use Rattle.image.proofs.SavedParts.{image-length}
@@ -46,12 +45,12 @@ state-runs image = runs-in-length image
 
 -- what was kept, by the engine's promise
 kept-image : (fault : ℕ) (xs : List Sample) (image : List ℕ) → length image ≡ imageSize
-    → imageKept (callAnswer fault xs (engineIn image)) (callEngine fault xs (engineIn image) .state) image ≡ callImage fault xs image
-unfolding callAnswer callEngine callImage outcome imageKept
+    → imageKept (callAnswer fault xs (stateIn image)) (callState fault xs (stateIn image)) image ≡ callImage fault xs image
+unfolding callAnswer callState callImage outcome imageKept
 kept-image fault xs image h = go (eqb fault 0)
   where
     go : (b : Bool) → imageKept (cond b (accepted (length (stepsGive unitSettings (stateIn image) xs))) (refused fault))
-        ((cond b (record { state = stateAfter unitSettings (stateIn image) xs }) (engineIn image)) .state) image
+        (cond b (stateAfter unitSettings (stateIn image) xs) (stateIn image)) image
         ≡ cond b (imageOf (stateAfter unitSettings (stateIn image) xs)) image
     go true = image-written (stateAfter unitSettings (stateIn image) xs) image (runs-kept unitSettings (stateIn image) xs (state-runs image)) h
     go false = refl
@@ -70,21 +69,21 @@ module _ (image : List ℕ) (c : Call) where
 
   module _ (i : isImage image ≡ true) where
     -- on an image, the first failing check is the engine's
-    fault-same : engineFault (engineIn image) c ≡ imageFault image c
-    unfolding engineFault imageFault
+    fault-same : stateFault (stateIn image) c ≡ imageFault image c
+    unfolding stateFault imageFault
     fault-same = rw (i, is-image image i .range)
 
     -- the promise, from the engine's and from what `finish` does, with the number as `finish` gave it
-    pub image-meets : (e : Engine) → engineIn image ≡ e → (called : Called) (z : ℤ) (imageLast outLast : List ℕ) → SFits w32 z
-        → (z ≡ answerNumber (answered (called .answer))) × (imageLast ≡ imageKept (answered (called .answer)) (called .engine .state) image)
-        → Meets e c called outLast
+    pub image-meets : (s : State) → stateIn image ≡ s → (next : State) (r : Answer) (z : ℤ) (imageLast outLast : List ℕ) → SFits w32 z
+        → (z ≡ answerNumber (answered r)) × (imageLast ≡ imageKept (answered r) next image)
+        → Meets s c next r outLast
         → ImageMeets image c (toZ w32 (ofZ w32 z)) imageLast outLast
-    image-meets e same called z imageLast outLast f p m =
-        let n : engineFault e c ≡ imageFault image c = rw (← same) fault-same in
-        let a : answered (called .answer) ≡ callAnswer (imageFault image c) (samplesAdded c) (engineIn image) = m .answer ∙ rw (n, same) in
-        let s : called .engine ≡ callEngine (imageFault image c) (samplesAdded c) (engineIn image) = m .engine ∙ rw (n, same) in
+    image-meets s same next r z imageLast outLast f p m =
+        let n : stateFault s c ≡ imageFault image c = rw (← same) fault-same in
+        let a : answered r ≡ callAnswer (imageFault image c) (samplesAdded c) (stateIn image) = m .answer ∙ rw (n, same) in
+        let t : next ≡ callState (imageFault image c) (samplesAdded c) (stateIn image) = m .state ∙ rw (n, same) in
         record {
           answer = again z _ f (p .0 ∙ ap answerNumber a);
-          image = p .1 ∙ rw (a, s) (kept-image (imageFault image c) (samplesAdded c) image (is-image image i .whole));
+          image = p .1 ∙ rw (a, t) (kept-image (imageFault image c) (samplesAdded c) image (is-image image i .whole));
           output = m .output ∙ rw (n, same);
         }

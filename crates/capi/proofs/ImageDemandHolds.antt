@@ -2,7 +2,7 @@
 -- Assumes nothing.
 use mathlib.Core.Path.{_≡_, refl, sym, ap, _∙_}
 use mathlib.Core.Bool.{Bool, true, false, cond}
-use mathlib.Core.List.{List, [], _∷_, _++_, map}
+use mathlib.Core.List.{List, [], _∷_, map}
 use Prim.Native.Nat.{ℕ}
 use lib.Dec.{eqb}
 use lib.ListN.{length}
@@ -12,11 +12,10 @@ use Rattle.history.specs.Rules.{unitSettings}
 use Rattle.history.specs.Runs.{runCount, facts, runsOf}
 use Rattle.history.specs.State.{fresh, stateAfter}
 use Rattle.history.proofs.StepMatchesHistory.{stateOf}
-use Rattle.engine.specs.declared.Engine.{Engine}
-use Rattle.engine.specs.Calls.{Call, lent, samplesAdded, callAnswer, callMemory}
-use Rattle.engine.specs.Demand.{documentFault, documentResult, acceptedAfter, documentResults}
-use Rattle.engine.proofs.DemandHolds.{Accepted, engineAt, taken-of, in-range, filter-f32, same-answer, same-output, same-state, still-accepted, nothing-accepted, fresh-engine, documented}
-use Rattle.image.specs.Image.{imageOf, stateIn, engineIn, isImage}
+use Rattle.calls.specs.Calls.{Call, lent, samplesAdded, callState, callAnswer, callMemory}
+use Rattle.calls.specs.Demand.{documentFault, documentResult, acceptedAfter, documentResults}
+use Rattle.calls.proofs.DemandHolds.{Accepted, stateAt, taken-of, in-range, filter-f32, same-answer, same-output, same-state, still-accepted, nothing-accepted, fresh-at, documented}
+use Rattle.image.specs.Image.{imageOf, stateIn, isImage}
 use Rattle.image.proofs.StateAgain.{state-in-image}
 use Rattle.image.proofs.LoadOfSave.{image-is-image}
 use Rattle.capi.specs.Imaged.{answerNumber, imageFault, callImage, ImageMeets}
@@ -24,41 +23,42 @@ use Rattle.capi.specs.ImageDemand.{ImageResult, numbered, ImageRun, ende
 
 -- the image of the engine after these samples
 abbrev imageAt : List Sample → List ℕ
-imageAt before = imageOf (engineAt before .state)
+imageAt before = imageOf (stateAt before)
 
-runs-at : (before : List Sample) → length (engineAt before .state .runs) ≡ runCount
-unfolding engineAt stateOf runsOf facts
+runs-at : (before : List Sample) → length (stateAt before .runs) ≡ runCount
+unfolding stateAt stateOf runsOf facts
 runs-at before = refl
 
 -- ---- one call
 
 module _ (before : List Sample) (a : Accepted before) (c : Call) where
-  state-again : stateIn (imageAt before) ≡ engineAt before .state
-  state-again = state-in-image (engineAt before .state) (in-range before a) (runs-at before) (filter-f32 before a)
-
-  engine-again : engineIn (imageAt before) ≡ engineAt before
-  engine-again = ap (λ (s : State). record { state = s }) state-again
+  state-again : stateIn (imageAt before) ≡ stateAt before
+  state-again = state-in-image (stateAt before) (in-range before a) (runs-at before) (filter-f32 before a)
 
   same-fault : imageFault (imageAt before) c ≡ documentFault (length before) c
   unfolding imageFault documentFault
   same-fault =
-      let i : isImage (imageAt before) ≡ true = image-is-image (engineAt before .state) (in-range before a) (runs-at before) (filter-f32 before a) in
+      let i : isImage (imageAt before) ≡ true = image-is-image (stateAt before) (in-range before a) (runs-at before) (filter-f32 before a) in
       rw (i, state-again, taken-of before)
 
-  number-at : answerNumber (callAnswer (imageFault (imageAt before) c) (samplesAdded c) (engineIn (imageAt before))) ≡ answerNumber (documentResult before c .answer)
-  number-at = rw (same-fault, engine-again) (ap answerNumber (same-answer before c))
+  number-at : answerNumber (callAnswer (imageFault (imageAt before) c) (samplesAdded c) (stateIn (imageAt before))) ≡ answerNumber (documentResult before c .answer)
+  number-at = rw (same-fault, state-again) (ap answerNumber (same-answer before c))
 
-  output-at : callMemory (imageFault (imageAt before) c) (samplesAdded c) (engineIn (imageAt before)) (lent c) ≡ documentResult before c .output
-  output-at = rw (same-fault, engine-again) (same-output before c)
+  output-at : callMemory (imageFault (imageAt before) c) (samplesAdded c) (stateIn (imageAt before)) (lent c) ≡ documentResult before c .output
+  output-at = rw (same-fault, state-again) (same-output before c)
+
+  -- the image after a call is that of the state after it
+  kept : (fault : ℕ) (xs : List Sample) (s : State) → cond (eqb fault 0) (imageOf (stateAfter unitSettings s xs)) (imageOf s) ≡ imageOf (callState fault xs s)
+  unfolding callState
+  kept fault xs s = go (eqb fault 0)
+    where
+      go : (b : Bool) → cond b (imageOf (stateAfter unitSettings s xs)) (imageOf s) ≡ imageOf (cond b (stateAfter unitSettings s xs) s)
+      go true = refl
+      go false = refl
 
   image-after : callImage (imageFault (imageAt before) c) (samplesAdded c) (imageAt before) ≡ imageAt (acceptedAfter before c)
-  unfolding callImage acceptedAfter
-  image-after = rw (same-fault, state-again) (go (eqb (documentFault (length before) c) 0))
-    where
-      go : (b : Bool) → cond b (imageOf (stateAfter unitSettings (engineAt before .state) (samplesAdded c))) (imageOf (engineAt before .state))
-          ≡ imageOf (engineAt (cond b (before ++ samplesAdded c) before) .state)
-      go true = ap imageOf (same-state before c true)
-      go false = refl
+  unfolding callImage
+  image-after = rw (same-fault, state-again) (kept (documentFault (length before) c) (samplesAdded c) (stateAt before) ∙ ap imageOf (same-state before c))
 
 -- ---- the list
 
@@ -85,7 +85,7 @@ run-made before a (c ∷ cs) =
     called m (run-made (acceptedAfter before c) (still-accepted before a c) cs)
 
 fresh-image : imageOf fresh ≡ imageAt []
-fresh-image = ap (λ (e : Engine). imageOf (e .state)) fresh-engine
+fresh-image = ap imageOf fresh-at
 
 -- demand 3, for the fresh image
 pub image-demand-holds : ImageDemand (imageOf fresh)

@@ -4,8 +4,8 @@ use Prim.Native.Nat.{ℕ}
 use mathlib.Core.Path.{_≡_}
 use mathlib.Core.List.{List, [], _∷_, map}
 use lib.IntN.{ℤ, pos}
-use Rattle.engine.specs.Calls.{Call}
-use Rattle.engine.specs.Demand.{Result, documentResults, Documented}
+use Rattle.calls.specs.Calls.{Call}
+use Rattle.calls.specs.Demand.{Result, documentResults, Documented}
 use Rattle.capi.specs.Imaged.{answerNumber, ImageMeets, freshNumber, freshImage}
 
 -- what is compared of a call: its answer as a number, and its output after it

@@ -14,8 +14,8 @@ use Rattle.message.specs.declared.Message.{Message}
 use Rattle.history.specs.declared.State.{State}
 use Rattle.history.specs.Rules.{unitSettings}
 use Rattle.history.specs.State.{fresh, stateAfter}
-use Rattle.engine.specs.Calls.{Call, lent, samplesAdded, callFault, callAnswer, callMemory}
-use Rattle.image.specs.Image.{imageSize, imageOf, stateIn, engineIn, isImage}
+use Rattle.calls.specs.Calls.{Call, lent, samplesAdded, callFault, callAnswer, callMemory}
+use Rattle.image.specs.Image.{imageSize, imageOf, stateIn, isImage}
 
 -- an accepted call answers its count, a refused one minus the refusal number
 unfoldable pub answerNumber : Outcome ℕ → ℤ
@@ -37,9 +37,9 @@ callImage fault xs image = cond (eqb fault 0) (imageOf (stateAfter unitSettings 
 
 -- a call's promise: its answer, and the image and the output after it
 pub record ImageMeets (before : List ℕ) (c : Call) (r : ℤ) (after last : List ℕ) : Type 0 where
-  pub answer : r ≡ answerNumber (callAnswer (imageFault before c) (samplesAdded c) (engineIn before))
+  pub answer : r ≡ answerNumber (callAnswer (imageFault before c) (samplesAdded c) (stateIn before))
   pub image : after ≡ callImage (imageFault before c) (samplesAdded c) before
-  pub output : last ≡ callMemory (imageFault before c) (samplesAdded c) (engineIn before) (lent c)
+  pub output : last ≡ callMemory (imageFault before c) (samplesAdded c) (stateIn before) (lent c)
 
 -- refusal 21 for memory of another length than an image's
 unfoldable pub freshFault : List ℕ → ℕ

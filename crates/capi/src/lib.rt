@@ -6,7 +6,7 @@ ghost use lib.IntN.{pos, negℤ};
 ghost use Rattle.wire.specs.Outcome.{answered, givenCount};
 ghost use Rattle.message.specs.Message.{messageRead};
 ghost use Rattle.block.specs.Block.{blockRead, blockReadMemory, blockWrite, blockWriteMemory};
-ghost use Rattle.engine.specs.Calls.{sampleCall, blockCall};
+ghost use Rattle.calls.specs.Calls.{sampleCall, blockCall};
 ghost use Rattle.capi.specs.Imaged.{answerNumber, checkNumber, imageKept, ImageMeets};
 ghost use Rattle.capi.specs.ImageDemand.{FreshImaged};
 use engine::Called;

@@ -6,10 +6,7 @@ pub mod Decided
 pub mod HighestFound
 pub mod StepFits
 pub mod SteadyStep
-pub mod Records
 pub mod Running
 pub mod SteadyStretch
-pub mod CallsMeet
-pub mod CallCounts
+pub mod CanRun
 pub mod DocumentHolds
-pub mod DemandHolds

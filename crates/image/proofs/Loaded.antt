@@ -1,6 +1,6 @@
 -- What `load` finds, check by check, and what its answer tells of the image: accepted, it is one; refused, it is none.
 -- Assumes nothing.
-use mathlib.Core.Path.{_≡_, refl, sym, _∙_}
+use mathlib.Core.Path.{_≡_, refl, sym, ap, _∙_}
 use mathlib.Core.Bool.{Bool, true, false, not}
 use mathlib.Core.List.{List, [], _∷_}
 use Prim.Native.Nat.{ℕ}
@@ -11,6 +11,7 @@ use Rattle.wire.specs.Outcome.{firstFault, outcome, check}
 use Rattle.wire.proofs.FirstFault.{accepted-clear, clear-first, refused-number, outcome-accepted, outcome-refused}
 use Rattle.history.specs.declared.State.{State}
 use Rattle.history.specs.Ranges.{stateInRange}
+use Rattle.engine.specs.declared.Engine.{Engine}
 use Rattle.image.specs.Image.{layout, imageSize, imageOf, stateIn, sameBytes, isImage, imageRead, loading, engineIn, Loaded}
 use Rattle.image.specs.declared.Loading.{Loading}
 use Rattle.image.proofs.LoadOfSave.{loaded-promise}
@@ -64,11 +65,11 @@ loaded s whole known state e inside f h again g same k z =
 -- ---- from the answer to the image
 
 module _ (s : List ℕ) (r : Loading) (l : loading r ≡ imageRead s) where
-  pub accepted-image : r .fault ≡ 0 → (isImage s ≡ true) × (engineIn s ≡ r .engine)
+  pub accepted-image : r .fault ≡ 0 → (isImage s ≡ true) × (stateIn s ≡ r .engine .state)
   unfolding loading imageRead
   accepted-image f =
       let c = accepted-clear _ (engineIn s) (r .engine) (sym l ∙ outcome-accepted (r .fault) (r .engine) f) in
-      (not-false (isImage s) (clear-first _ _ (λ z. omega arith) (c .0) .0), c .1)
+      (not-false (isImage s) (clear-first _ _ (λ z. omega arith) (c .0) .0), ap (λ (e : Engine). e .state) (c .1))
 
   pub refused-image : (r .fault ≡ 0 → ⊥) → isImage s ≡ false
   unfolding loading imageRead firstFault

@@ -1,11 +1,11 @@
 use mathlib.Core.Path.{refl, ap}
 use mathlib.Core.Bool.{not}
 use native.Mathlib.Omega.{arith}
-use Rattle.checks.proofs.CallFaults.{block-length, block-room, block-range}
-use Rattle.engine.specs.Calls.{lent, callFault}
+use Rattle.calls.proofs.CallFaults.{block-length, block-room, block-range}
+use Rattle.calls.specs.Calls.{lent, callFault}
+use Rattle.calls.proofs.CallCounts.{call-count}
 use Rattle.image.proofs.Loaded.{accepted-image, refused-image}
 use Rattle.capi.specs.Imaged.{imageFault}
-use Rattle.capi.proofs.Counts.{call-count}
 use Rattle.capi.proofs.ImageCalls.{image-refused, image-meets}
 use borrow.Author.Needs.{needs}
 use Rattle.capi.proofs.yoldrim_block.Statement.{statement}
@@ -42,8 +42,12 @@ same-length-3 : tie.Need-same-length-3
 same-length-3 c = search needs
 
 returns-4 : tie.Need-returns-4
-returns-4 c = let a = accepted-image _ _ (c .before .before .before .before .before .before .before .before .before .before .before .load .ensures .found) (c .before .before .before .before .before .before .before .before .before .if3 .left) in
-    image-meets _ _ (a .0) _ (a .1) _ _ _ _ (record { sfits = c .before .before .finish .ok }) (c .before .before .finish .ensures) (c .before .before .before .before .before .before .block .ensures)
+returns-4 c =
+    let kept = c .before .before in
+    let called = kept .before .before .before .before in
+    let loaded = called .before .before .before in
+    let a = accepted-image _ _ (loaded .before .before .load .ensures .found) (loaded .if3 .left) in
+    image-meets _ _ (a .0) _ (a .1) _ _ _ _ _ (record { sfits = kept .finish .ok }) (kept .finish .ensures) (called .block .ensures)
 
 pub yoldrim-block-spec : {M : Type 1} → statement M
 yoldrim-block-spec =

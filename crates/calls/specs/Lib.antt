@@ -1,2 +1,4 @@
 pub mod Checks
 pub mod OrderOfChecks
+pub mod Calls
+pub mod Demand

@@ -1,3 +1,0 @@
-pub mod SamplesInTurn
-pub mod CallFaults
-pub mod OrderOfChecksHolds
