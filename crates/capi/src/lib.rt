@@ -26,7 +26,8 @@ pub extern "C" fn yoldrim_fresh(memory: &mut [u8]) -> i32
     if memory.len() != BYTES {
         return NO_ENGINE;
     }
-    let fresh = image::save(Engine::fresh());
+    let e = Engine::fresh();
+    let fresh = image::save(e.state);
     wire::copy_at(memory, 0, &fresh);
     0
 }
@@ -46,7 +47,8 @@ pub extern "C" fn yoldrim_sample(memory: &mut [u8], bytes: &[u8], out: &mut [u8]
     if loading.fault != 0 {
         return NO_ENGINE;
     }
-    let e = loading.engine;
+    let state = loading.state;
+    let e = Engine { state };
     let called = e.step(bytes, out);
     finish(called, memory)
 }
@@ -66,7 +68,8 @@ pub extern "C" fn yoldrim_block(memory: &mut [u8], bytes: &[u8], out: &mut [u8])
     if loading.fault != 0 {
         return NO_ENGINE;
     }
-    let e = loading.engine;
+    let state = loading.state;
+    let e = Engine { state };
     let called = e.block(bytes, out);
     finish(called, memory)
 }
@@ -127,7 +130,7 @@ fn finish(called: Called, memory: &mut [u8]) -> i32
         Answer::Refused(n) => minus(n),
         Answer::Given(n) => {
             let next = called.engine;
-            let bytes = image::save(next);
+            let bytes = image::save(next.state);
             wire::copy_at(memory, 0, &bytes);
             n as i32
         }

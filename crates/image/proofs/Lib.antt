@@ -8,4 +8,4 @@ pub mod SavedParts
 pub mod StateAgain
 pub mod LoadOfSave
 pub mod Loaded
-pub mod OwnedEngine
+pub mod OwnedState

@@ -1,4 +1,4 @@
--- Loading what was saved gives the engine again, and an image that is accepted is byte for byte what saving makes.
+-- Loading what was saved gives the state again, and an image that is accepted is byte for byte what saving makes.
 -- Assumes nothing.
 use mathlib.Core.Path.{_≡_, refl, sym, _∙_}
 use mathlib.Core.Bool.{true, _&&_}
@@ -16,7 +16,6 @@ use Rattle.filter.specs.Filter.{isF32}
 use Rattle.history.specs.declared.State.{State}
 use Rattle.history.specs.Runs.{runCount}
 use Rattle.history.specs.Ranges.{stateInRange}
-use Rattle.engine.specs.declared.Engine.{Engine}
 use Rattle.image.specs.declared.Loading.{Loading}
 use Rattle.image.proofs.SameBytes.{same-refl, same-equal}
 use Rattle.image.specs.Image.{layout, imageSize, imageOf, stateIn, sameBytes, isImage, imageRead, loading, Saved, Loaded}
@@ -33,10 +32,10 @@ module _ (s : State) (range : stateInRange s ≡ true) (size : length (s .runs) 
   unfolding isImage
   image-is-image = simp (eq-eqb _ _ (image-length s size), eq-eqb _ _ (image-layout s), state-in-image s range size f32, range, same-refl (imageOf s))
 
--- loading what was saved gives the engine again
-pub load-of-save : (e : Engine) → stateInRange (e .state) ≡ true → length (e .state .runs) ≡ runCount → T (isF32 (e .state .filter)) → imageRead (imageOf (e .state)) ≡ accepted e
-unfolding imageRead firstFault outcome
-load-of-save e range size f32 = simp (image-is-image (e .state) range size f32, state-in-image (e .state) range size f32)
+  -- loading what was saved gives the state again
+  pub load-of-save : imageRead (imageOf s) ≡ accepted s
+  unfolding imageRead firstFault outcome
+  load-of-save = simp (image-is-image, state-in-image s range size f32)
 
 -- what an image has
 pub record Image (s : List ℕ) : Type 0 where
@@ -59,19 +58,19 @@ is-image s e =
       saved = same-equal _ _ (and-r (a && b && c) d t);
     }
 
--- an accepted image is byte for byte what saving makes of its engine, which is within 21's ranges
-pub save-of-load : (s : List ℕ) (e : Engine) → imageRead s ≡ accepted e → (imageOf (e .state) ≡ s) × (stateInRange (e .state) ≡ true)
+-- an accepted image is byte for byte what saving makes of its state, which is within 21's ranges
+pub save-of-load : (s : List ℕ) (t : State) → imageRead s ≡ accepted t → (imageOf t ≡ s) × (stateInRange t ≡ true)
 unfolding imageRead
-save-of-load s e r =
-    let c = accepted-clear _ (record { state = stateIn s }) e r in
+save-of-load s t r =
+    let c = accepted-clear _ (stateIn s) t r in
     let k = clear-first _ _ (λ z. omega arith) (c .0) in
     let i = is-image s (not-false (isImage s) (k .0)) in
     (rw (← c .1) (i .saved), rw (← c .1) (i .range))
 
 -- ---- the promises of `save` and of `load`, from what they make and find
 
-pub saved-promise : (e : Engine) (r : List ℕ) → length (e .state .runs) ≡ runCount → T (isF32 (e .state .filter)) → r ≡ imageOf (e .state) → Saved e r
-saved-promise e r size f32 h = record { image = h; loads-back = λ range. rw h (load-of-save e range size f32) }
+pub saved-promise : (s : State) (r : List ℕ) → length (s .runs) ≡ runCount → T (isF32 (s .filter)) → r ≡ imageOf s → Saved s r
+saved-promise s r size f32 h = record { image = h; loads-back = λ range. rw h (load-of-save s range size f32) }
 
 pub loaded-promise : (image : List ℕ) (r : Loading) → loading r ≡ imageRead image → Loaded image r
-loaded-promise image r h = record { found = h; as-saved = λ e f. save-of-load image e (sym h ∙ f) .0 }
+loaded-promise image r h = record { found = h; as-saved = λ s f. save-of-load image s (sym h ∙ f) .0 }

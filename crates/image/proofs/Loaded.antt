@@ -1,6 +1,6 @@
 -- What `load` finds, check by check, and what its answer tells of the image: accepted, it is one; refused, it is none.
 -- Assumes nothing.
-use mathlib.Core.Path.{_≡_, refl, sym, ap, _∙_}
+use mathlib.Core.Path.{_≡_, refl, sym, _∙_}
 use mathlib.Core.Bool.{Bool, true, false, not}
 use mathlib.Core.List.{List, [], _∷_}
 use Prim.Native.Nat.{ℕ}
@@ -11,8 +11,7 @@ use Rattle.wire.specs.Outcome.{firstFault, outcome, check}
 use Rattle.wire.proofs.FirstFault.{accepted-clear, clear-first, refused-number, outcome-accepted, outcome-refused}
 use Rattle.history.specs.declared.State.{State}
 use Rattle.history.specs.Ranges.{stateInRange}
-use Rattle.engine.specs.declared.Engine.{Engine}
-use Rattle.image.specs.Image.{layout, imageSize, imageOf, stateIn, sameBytes, isImage, imageRead, loading, engineIn, Loaded}
+use Rattle.image.specs.Image.{layout, imageSize, imageOf, stateIn, sameBytes, isImage, imageRead, loading, Loaded}
 use Rattle.image.specs.declared.Loading.{Loading}
 use Rattle.image.proofs.LoadOfSave.{loaded-promise}
 
@@ -56,25 +55,25 @@ module _ (s : List ℕ) (r : Loading) (no : r .fault ≡ 21) where
     refused-bytes h again g same k z = refused (compared s whole known state e inside f h again g same k ∙ not-true same z)
 
 pub loaded : (s : List ℕ) → length s ≡ imageSize → getD s 0 0 ≡ layout → (state : State) → state ≡ stateIn s → (inside : Bool) → inside ≡ stateInRange state → not inside ≡ false
-    → (again : List ℕ) → again ≡ imageOf state → (same : Bool) → same ≡ sameBytes again s → not same ≡ false → Loaded s (record { engine = record { state = state }; fault = 0 })
+    → (again : List ℕ) → again ≡ imageOf state → (same : Bool) → same ≡ sameBytes again s → not same ≡ false → Loaded s (record { state = state; fault = 0 })
 unfolding loading imageRead firstFault outcome
 loaded s whole known state e inside f h again g same k z =
     let i : isImage s ≡ true = compared s whole known state e inside f h again g same k ∙ not-false same z in
-    loaded-promise s (record { engine = record { state = state }; fault = 0 }) (simp (i, ← e))
+    loaded-promise s (record { state = state; fault = 0 }) (simp (i, ← e))
 
 -- ---- from the answer to the image
 
 module _ (s : List ℕ) (r : Loading) (l : loading r ≡ imageRead s) where
-  pub accepted-image : r .fault ≡ 0 → (isImage s ≡ true) × (stateIn s ≡ r .engine .state)
+  pub accepted-image : r .fault ≡ 0 → (isImage s ≡ true) × (stateIn s ≡ r .state)
   unfolding loading imageRead
   accepted-image f =
-      let c = accepted-clear _ (engineIn s) (r .engine) (sym l ∙ outcome-accepted (r .fault) (r .engine) f) in
-      (not-false (isImage s) (clear-first _ _ (λ z. omega arith) (c .0) .0), ap (λ (e : Engine). e .state) (c .1))
+      let c = accepted-clear _ (stateIn s) (r .state) (sym l ∙ outcome-accepted (r .fault) (r .state) f) in
+      (not-false (isImage s) (clear-first _ _ (λ z. omega arith) (c .0) .0), c .1)
 
   pub refused-image : (r .fault ≡ 0 → ⊥) → isImage s ≡ false
   unfolding loading imageRead firstFault
   refused-image f =
-      let c = refused-number _ (engineIn s) (r .fault) (sym l ∙ outcome-refused (r .fault) (r .engine) f) in
+      let c = refused-number _ (stateIn s) (r .fault) (sym l ∙ outcome-refused (r .fault) (r .state) f) in
       go (isImage s) (c .1)
     where
       go : (b : Bool) → (firstFault (check 21 (not b) ∷ []) ≡ 0 → ⊥) → b ≡ false

@@ -1,4 +1,4 @@
--- The engine's image: what saving makes of an engine, what is read back from an image, and which bytes are an image.
+-- The engine's image: what saving makes of its state, what is read back from an image, and which bytes are an image.
 -- Assumes nothing. The value of a running filter is kept by its bits, as `lib.Ieee` gives them.
 use Prim.Native.Nat.{ℕ, zero, suc, _+_, _*_}
 use mathlib.Core.Path.{_≡_}
@@ -21,7 +21,6 @@ use Rattle.history.specs.declared.Log.{Log}
 use Rattle.history.specs.declared.State.{State}
 use Rattle.history.specs.Runs.{runCount}
 use Rattle.history.specs.Ranges.{counts, stateInRange}
-use Rattle.engine.specs.declared.Engine.{Engine}
 use Rattle.image.specs.declared.Loading.{Loading}
 
 -- ---- the places
@@ -183,23 +182,20 @@ sameBytes (x ∷ xs) (y ∷ ys) = eqb x y && sameBytes xs ys
 unfoldable pub isImage : List ℕ → Bool
 isImage s = eqb (length s) imageSize && eqb (getD s 0 0) layout && stateInRange (stateIn s) && sameBytes (imageOf (stateIn s)) s
 
-abbrev pub engineIn : List ℕ → Engine
-engineIn s = record { state = stateIn s }
-
 -- refusal 21 for bytes that are no image
-unfoldable pub imageRead : List ℕ → Outcome Engine
-imageRead s = outcome (firstFault (check 21 (not (isImage s)) ∷ [])) (engineIn s)
+unfoldable pub imageRead : List ℕ → Outcome State
+imageRead s = outcome (firstFault (check 21 (not (isImage s)) ∷ [])) (stateIn s)
 
--- the engine or the refusal number that loading answers
-unfoldable pub loading : Loading → Outcome Engine
-loading r = outcome (r .fault) (r .engine)
+-- the state or the refusal number that loading answers
+unfoldable pub loading : Loading → Outcome State
+loading r = outcome (r .fault) (r .state)
 
--- the promise of `save`: the image, and that it loads as the same engine, where that is within 21's ranges
-pub record Saved (e : Engine) (r : List ℕ) : Type 0 where
-  pub image : r ≡ imageOf (e .state)
-  pub loads-back : stateInRange (e .state) ≡ true → imageRead r ≡ accepted e
+-- the promise of `save`: the image, and that it loads as the same state, where that is within 21's ranges
+pub record Saved (s : State) (r : List ℕ) : Type 0 where
+  pub image : r ≡ imageOf s
+  pub loads-back : stateInRange s ≡ true → imageRead r ≡ accepted s
 
--- the promise of `load`: what it finds, and that an accepted image is byte for byte what saving makes of its engine
+-- the promise of `load`: what it finds, and that an accepted image is byte for byte what saving makes of its state
 pub record Loaded (image : List ℕ) (r : Loading) : Type 0 where
   pub found : loading r ≡ imageRead image
-  pub as-saved : (e : Engine) → loading r ≡ accepted e → imageOf (e .state) ≡ image
+  pub as-saved : (s : State) → loading r ≡ accepted s → imageOf s ≡ image

@@ -1,11 +1,11 @@
-// The engine as an image of `BYTES` bytes, so that a unit can keep it over a restart.
+// The engine's state as an image of `BYTES` bytes, so that a unit can keep it over a restart.
 mod decoding;
 mod encoding;
 
 ghost use mathlib.Core.Path.{_≡_};
 ghost use Rattle.image.specs.Image.{Saved, Loaded};
-use engine::Engine;
 use history::RUNS;
+use history::State;
 
 // The first byte of an image. Every change of what an image holds raises it, so that no image of other software is misread.
 const LAYOUT: u8 = 1;
@@ -34,9 +34,9 @@ const RUNS_AT: usize = WORDS_AT + 4 * NUMBERS;
 
 pub const BYTES: usize = RUNS_AT + 4 * RUNS;
 
-// What loading finds: the engine, and the number that refuses the image, 0 for an accepted one. With a refusal the engine is a fresh one.
+// What loading finds: the state, and the number that refuses the image, 0 for an accepted one. With a refusal the state is a fresh one.
 pub struct Loading {
-    pub engine: Engine,
+    pub state: State,
     pub fault: u8,
 }
 
@@ -44,15 +44,14 @@ fn refusal() -> Loading
     ensures { λ r. ⌜ r .fault ≡ 21 ⌝ }
 {
     Loading {
-        engine: Engine::fresh(),
+        state: ranges::fresh_state(),
         fault: 21,
     }
 }
 
-pub fn save(e: Engine) -> [u8; BYTES]
-    ensures { λ r. ⌜ Saved e r ⌝ }
+pub fn save(state: State) -> [u8; BYTES]
+    ensures { λ r. ⌜ Saved state r ⌝ }
 {
-    let state = e.state;
     let log = state.log;
     let standing = log.standing;
     let runs = state.runs;
@@ -68,7 +67,7 @@ pub fn save(e: Engine) -> [u8; BYTES]
     image
 }
 
-// An image is accepted if it has this layout, saving its engine again makes the same bytes, and refusal 21 lets that engine pass.
+// An image is accepted if it has this layout, saving its state again makes the same bytes, and refusal 21 lets that state pass.
 pub fn load(image: &[u8]) -> Loading
     ensures { λ r. ⌜ Loaded (now (image .entry)) r ⌝ }
 {
@@ -82,10 +81,9 @@ pub fn load(image: &[u8]) -> Loading
     if !ranges::state_in_range(state) {
         return refusal();
     }
-    let engine = Engine { state };
-    let again = save(engine);
+    let again = save(state);
     if !decoding::same(&again, image) {
         return refusal();
     }
-    Loading { engine, fault: 0 }
+    Loading { state, fault: 0 }
 }

@@ -1,7 +1,7 @@
 use mathlib.Core.Path.{refl}
 use native.Mathlib.Omega.{arith}
 use Rattle.image.proofs.LoadOfSave.{saved-promise}
-use Rattle.image.proofs.OwnedEngine.{owned-engine, owned-runs}
+use Rattle.image.proofs.OwnedState.{owned-filter, owned-runs}
 use Rattle.image.proofs.SavedParts.{parts-saved}
 use borrow.Author.Needs.{needs}
 use Rattle.image.proofs.save.Statement.{statement}
@@ -57,8 +57,8 @@ put-words-requires-2 c κs =
     let three = c .before .before .before in
     let two = three .before .before .before .before in
     let one = two .before .before .before .before in
-    let start = one .before .before .before .before .before .before .before .before .before in
-    omega (arith, owned-runs (start .args .e) _ (start .good .0), three .put-words .kept .0, two .copy-at2 .kept .0, one .copy-at .kept .0)
+    let start = one .before .before .before .before .before .before .before .before in
+    omega (arith, owned-runs (start .args .state) _ (start .good .0), three .put-words .kept .0, two .copy-at2 .kept .0, one .copy-at .kept .0)
 
 returns : tie.Need-returns
 returns c =
@@ -66,9 +66,9 @@ returns c =
     let two = three .before .before .before .before in
     let one = two .before .before .before .before in
     let made = one .before .before .before in
-    let start = made .before .before .before .before .before .before in
-    let size = owned-runs (start .args .e) _ (start .good .0) in
-    saved-promise (start .args .e) _ size (owned-engine (start .args .e) _ (start .good .0))
+    let start = made .before .before .before .before .before in
+    let size = owned-runs (start .args .state) _ (start .good .0) in
+    saved-promise (start .args .state) _ size (owned-filter (start .args .state) _ (start .good .0))
     (parts-saved _ _ _ _ _ _ _ _ _ refl refl size (made .before .before .flags-of .ensures) (made .before .standing-bytes .ensures) (made .numbers-of .ensures)
     (one .copy-at .ensures) (two .copy-at2 .ensures) (three .put-words .ensures) (c .before .put-words2 .ensures))
 
