@@ -25,7 +25,9 @@ copy-at-requires : tie.Need-copy-at-requires
 copy-at-requires c κs = search needs
 
 cast-result : tie.Need-cast-result
-cast-result c = given-fits _ _ (c .before .before .before .before .before .before .before .before .answer2 .given .1) (c .before .before .before .before .before .before .before .before .before .before .before .pre)
+cast-result c =
+    let given = c .before .before .before .before .before .before .before .before in
+    given-fits _ _ (given .answer2 .given .1) (given .before .before .before .pre)
 
 returns : tie.Need-returns
 unfolding imageKept answered
@@ -36,7 +38,12 @@ same-length c = search needs
 
 returns-2 : tie.Need-returns-2
 unfolding imageKept answered
-returns-2 c = (given-number _ _ (c .before .before .before .before .before .before .before .before .answer2 .given .1) (c .before .before .before .before .before .before .before .before .before .before .before .pre), rw (c .before .before .before .before .before .before .before .before .answer2 .given .1, ← c .before .before .before .before .before .save .ensures .image) (c .before .before .copy-at .ensures))
+returns-2 c =
+    let copied = c .before .before in
+    let saved = copied .before .before .before in
+    let given = saved .before .before .before in
+    let e = given .answer2 .given .1 in
+    (given-number _ _ e (given .before .before .before .pre), rw (e, ← saved .save .ensures .image) (copied .copy-at .ensures))
 
 pub finish-spec : {M : Type 1} → statement M
 finish-spec =

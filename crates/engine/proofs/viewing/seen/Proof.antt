@@ -17,13 +17,22 @@ array-read-t17 : tie.Need-array-read-t17
 array-read-t17 c = search needs
 
 quality-from-requires : tie.Need-quality-from-requires
-quality-from-requires c κs = let k = c .before .before .before .before .before .before .before .before .before .before .before .pre .0 in (omega (arith, c .before .before .before .before .before .counted-from .ensures, k .room, k .fits .counts 4), runs-still-fit _ _ _ k (c .before .before .before .before .before .before .before .before .before .before .before .pre .1))
+quality-from-requires c κs =
+    let counted = c .before .before .before .before .before in
+    let pre = counted .before .before .before .before .before .before .pre in
+    (omega (arith, counted .counted-from .ensures, pre .0 .room, pre .0 .fits .counts 4), runs-still-fit _ _ _ (pre .0) (pre .1))
 
 quality-from-requires-2 : tie.Need-quality-from-requires-2
-quality-from-requires-2 c κs = let k = c .before .before .before .before .before .before .before .before .before .before .before .before .pre .0 in (omega (arith, k .room, k .fits .counts 3), runs-still-fit _ _ _ k (c .before .before .before .before .before .before .before .before .before .before .before .before .pre .1))
+quality-from-requires-2 c κs =
+    let counted = c .before .before .before .before .before .before in
+    let pre = counted .before .before .before .before .before .before .pre in
+    (omega (arith, pre .0 .room, pre .0 .fits .counts 3), runs-still-fit _ _ _ (pre .0) (pre .1))
 
 returns : tie.Need-returns
-returns c = seen-made _ _ _ _ _ _ _ (c .before .before .before .before .before .before .before .before .before .before .before .conditions-at .ensures) (c .before .before .before .before .before .before .before .counted-from .ensures) (c .before .quality-from .ensures) (c .quality-from2 .ensures)
+returns c =
+    let counted = c .before .before .before .before .before .before .before in
+    let conditions = counted .before .before .before .before in
+    seen-made _ _ _ _ _ _ _ (conditions .conditions-at .ensures) (counted .counted-from .ensures) (c .before .quality-from .ensures) (c .quality-from2 .ensures)
 
 pub seen-spec : {M : Type 1} → statement M
 seen-spec =
