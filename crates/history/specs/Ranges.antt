@@ -28,7 +28,25 @@ counts s =
     ∷ s .log .events
     ∷ s .runs
 
--- the runs stand behind the six others
+-- the place of each among them; the runs stand behind the six others
+abbrev pub stoppedPlace : ℕ
+stoppedPlace = 0
+
+abbrev pub brokenDownPlace : ℕ
+brokenDownPlace = 1
+
+abbrev pub startedPlace : ℕ
+startedPlace = 2
+
+abbrev pub countedPlace : ℕ
+countedPlace = 3
+
+abbrev pub lastCancelPlace : ℕ
+lastCancelPlace = 4
+
+abbrev pub eventsPlace : ℕ
+eventsPlace = 5
+
 abbrev pub runPlace : ℕ → ℕ
 runPlace i = suc (suc (suc (suc (suc (suc i)))))
 

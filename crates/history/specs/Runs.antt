@@ -7,7 +7,8 @@ use lib.ListN.{getD}
 use Rattle.sample.specs.declared.Sample.{Sample}
 use Rattle.history.specs.History.{Past, Fact, present, never, run, stationary, parked, idling, braked, belted, ignited, doorOpen, bootOpen, bonnetOpen, ecallPressed, lowSeverity, highSeverity}
 
--- the facts whose runs are kept, by what is taken for still; of the ticks before, none sees more than that
+-- the facts whose unbroken runs are kept. Still is an argument: for a history it is `stationary`, and for one new sample it is known
+-- already; no other fact here looks at the ticks before its own, so a step can tell each of them from the sample
 unfoldable pub facts : Fact → List Fact
 facts still =
     still

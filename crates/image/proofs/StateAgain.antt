@@ -22,10 +22,10 @@ use Rattle.history.specs.declared.Notice.{Notice}
 use Rattle.history.specs.declared.Notice.the-variants.{Nothing, Sent}
 use Rattle.history.specs.declared.State.{State}
 use Rattle.history.specs.Runs.{runCount}
-use Rattle.history.specs.Ranges.{stateInRange}
+use Rattle.history.specs.Ranges.{stateInRange, stoppedPlace, brokenDownPlace, startedPlace, countedPlace, lastCancelPlace, eventsPlace}
 use Rattle.history.proofs.StateMade.{cycle-made, log-made, state-made}
 use Rattle.history.proofs.InRange.{InRange, in-range}
-use Rattle.image.specs.Image.{layout, stoppedMarks, brokenDownMarks, sentFlag, standingPlace, wordsPlace, numberCount, flag, isRunning, filterBits, isSent, flagsOf, standingBytes, wordsOf, wordBytes, imageOf, flagIn, numberIn, runsIn, filterIn, noticeOf, standingIn, cycleIn, logIn, stateIn}
+use Rattle.image.specs.Image.{layout, stoppedMarks, brokenDownMarks, sentFlag, standingPlace, wordsPlace, numberCount, flag, isRunning, filterBits, isSent, flagsOf, standingBytes, wordsOf, wordBytes, imageOf, flagIn, numberIn, runsIn, filterIn, noticeOf, standingIn, cycleIn, logIn, stateIn, runningFlag, ignitionFlag, takenNumber, filterNumber, countNumber}
 use Rattle.image.proofs.WordBytes.{word-behind, Fit, word-at}
 use Rattle.image.proofs.SavedParts.{standing-length, head-length}
 use Rattle.image.proofs.NumbersIn.{runs-in-length, run-in-at}
@@ -91,7 +91,7 @@ module _ (s : State) (h : InRange s) (size : length (s .runs) ≡ runCount) (t :
   unfolding flagIn imageOf flagsOf wordsOf
   first-again =
       cycle-made (s .stoppedcycle) _ _ _ _ _ _
-      (number-again 2)
+      (number-again (countNumber stoppedPlace))
       (flag-again (s .stoppedcycle .park))
       (flag-again (s .stoppedcycle .idle))
       (flag-again (s .stoppedcycle .brake))
@@ -102,7 +102,7 @@ module _ (s : State) (h : InRange s) (size : length (s .runs) ≡ runCount) (t :
   unfolding flagIn imageOf flagsOf wordsOf
   second-again =
       cycle-made (s .brokendowncycle) _ _ _ _ _ _
-      (number-again 3)
+      (number-again (countNumber brokenDownPlace))
       (flag-again (s .brokendowncycle .park))
       (flag-again (s .brokendowncycle .idle))
       (flag-again (s .brokendowncycle .brake))
@@ -122,20 +122,20 @@ module _ (s : State) (h : InRange s) (size : length (s .runs) ≡ runCount) (t :
   log-again =
       log-made (s .log) _ _ _ _ _
       (rw (sent-again, record-again) (standing-again (s .log .standing) (λ m e. h .standing m e .0)))
-      (number-again 4)
-      (number-again 5)
-      (number-again 6)
-      (number-again 7)
+      (number-again (countNumber startedPlace))
+      (number-again (countNumber countedPlace))
+      (number-again (countNumber lastCancelPlace))
+      (number-again (countNumber eventsPlace))
 
-  running-again : flagIn 0 (imageOf s) ≡ isRunning (s .filter)
+  running-again : flagIn runningFlag (imageOf s) ≡ isRunning (s .filter)
   unfolding flagIn imageOf flagsOf
   running-again = flag-again (isRunning (s .filter))
 
-  bits-again : numberIn 1 (imageOf s) ≡ filterBits (s .filter)
+  bits-again : numberIn filterNumber (imageOf s) ≡ filterBits (s .filter)
   unfolding wordsOf
-  bits-again = number-again 1
+  bits-again = number-again filterNumber
 
-  ignition-again : flagIn 1 (imageOf s) ≡ s .ignition
+  ignition-again : flagIn ignitionFlag (imageOf s) ≡ s .ignition
   unfolding flagIn imageOf flagsOf
   ignition-again = flag-again (s .ignition)
 
@@ -143,7 +143,7 @@ module _ (s : State) (h : InRange s) (size : length (s .runs) ≡ runCount) (t :
   unfolding stateIn wordsOf
   state-again =
       state-made s _ _ _ _ _ _ _
-      (number-again 0)
+      (number-again takenNumber)
       (rw (running-again, bits-again) (filter-again (s .filter) (h .filter) t))
       ignition-again
       runs-again

@@ -20,7 +20,7 @@ use Rattle.history.specs.declared.Cycle.{Cycle}
 use Rattle.history.specs.declared.Log.{Log}
 use Rattle.history.specs.declared.State.{State}
 use Rattle.history.specs.Runs.{runCount}
-use Rattle.history.specs.Ranges.{counts, stateInRange}
+use Rattle.history.specs.Ranges.{counts, stoppedPlace, brokenDownPlace, startedPlace, countedPlace, lastCancelPlace, eventsPlace, runPlace, stateInRange}
 use Rattle.image.specs.declared.Loading.{Loading}
 
 -- ---- the places
@@ -34,6 +34,12 @@ layout = 1
 -- two zeros, so that every number stands at a place that four divides
 abbrev pub flagsPlace : ℕ
 flagsPlace = 1
+
+abbrev pub runningFlag : ℕ
+runningFlag = 0
+
+abbrev pub ignitionFlag : ℕ
+ignitionFlag = 1
 
 abbrev pub stoppedMarks : ℕ
 stoppedMarks = 2
@@ -55,8 +61,20 @@ standingPlace = flagsPlace + flagCount
 abbrev pub wordsPlace : ℕ
 wordsPlace = standingPlace + 32
 
+-- which number stands at which place, in the order of `wordsOf`: the samples taken, the filter's bits
+abbrev pub takenNumber : ℕ
+takenNumber = 0
+
+abbrev pub filterNumber : ℕ
+filterNumber = 1
+
+-- the counts stand behind these two, each at its place
+abbrev pub countNumber : ℕ → ℕ
+countNumber k = 2 + k
+
+-- how many numbers there are before the runs
 abbrev pub numberCount : ℕ
-numberCount = 8
+numberCount = countNumber (runPlace 0)
 
 abbrev pub runsPlace : ℕ
 runsPlace = wordsPlace + 4 * numberCount
@@ -152,20 +170,20 @@ cycleIn ticks mark s = record {
 unfoldable pub logIn : List ℕ → Log
 logIn s = record {
   standing = standingIn (flagIn sentFlag s) (take 32 (drop standingPlace s));
-  started = numberIn 4 s;
-  counted = numberIn 5 s;
-  lastcancel = numberIn 6 s;
-  events = numberIn 7 s;
+  started = numberIn (countNumber startedPlace) s;
+  counted = numberIn (countNumber countedPlace) s;
+  lastcancel = numberIn (countNumber lastCancelPlace) s;
+  events = numberIn (countNumber eventsPlace) s;
 }
 
 unfoldable pub stateIn : List ℕ → State
 stateIn s = record {
-  taken = numberIn 0 s;
-  filter = filterIn (flagIn 0 s) (numberIn 1 s);
-  ignition = flagIn 1 s;
+  taken = numberIn takenNumber s;
+  filter = filterIn (flagIn runningFlag s) (numberIn filterNumber s);
+  ignition = flagIn ignitionFlag s;
   runs = runsIn s;
-  stoppedcycle = cycleIn 2 stoppedMarks s;
-  brokendowncycle = cycleIn 3 brokenDownMarks s;
+  stoppedcycle = cycleIn (countNumber stoppedPlace) stoppedMarks s;
+  brokendowncycle = cycleIn (countNumber brokenDownPlace) brokenDownMarks s;
   log = logIn s;
 }
 

@@ -5,11 +5,21 @@ ghost use lib.ListN.{length};
 ghost use Rattle.history.specs.Runs.{runCount};
 ghost use Rattle.image.specs.Image.{flagCount, numberCount, imageSize, flagIn, numberIn, runsIn, filterIn, standingIn, cycleIn, logIn, stateIn, sameBytes};
 use crate::BROKEN_DOWN_MARKS;
+use crate::BROKEN_DOWN_TICKS;
+use crate::COUNTED;
+use crate::EVENTS;
+use crate::FILTER_BITS;
 use crate::FLAGS_AT;
+use crate::IGNITION;
+use crate::LAST_CANCEL;
 use crate::NUMBERS;
+use crate::RUNNING;
 use crate::SENT;
 use crate::STANDING_AT;
+use crate::STARTED;
 use crate::STOPPED_MARKS;
+use crate::STOPPED_TICKS;
+use crate::TAKEN;
 use crate::WORDS_AT;
 use filter::Filter;
 use history::Cycle;
@@ -94,10 +104,10 @@ fn log_in(s: &[u8]) -> Log
     let sent = flag_in(s, SENT);
     Log {
         standing: standing_in(sent, &s[STANDING_AT..WORDS_AT]),
-        started: number_in(s, 4),
-        counted: number_in(s, 5),
-        lastcancel: number_in(s, 6),
-        events: number_in(s, 7),
+        started: number_in(s, STARTED),
+        counted: number_in(s, COUNTED),
+        lastcancel: number_in(s, LAST_CANCEL),
+        events: number_in(s, EVENTS),
     }
 }
 
@@ -109,12 +119,12 @@ pub(crate) fn state_in(s: &[u8]) -> State
     let log = log_in(s);
     let runs = runs_in(s);
     State {
-        taken: number_in(s, 0),
-        filter: filter_in(flag_in(s, 0), number_in(s, 1)),
-        ignition: flag_in(s, 1),
+        taken: number_in(s, TAKEN),
+        filter: filter_in(flag_in(s, RUNNING), number_in(s, FILTER_BITS)),
+        ignition: flag_in(s, IGNITION),
         runs,
-        stoppedcycle: cycle_in(s, 2, STOPPED_MARKS),
-        brokendowncycle: cycle_in(s, 3, BROKEN_DOWN_MARKS),
+        stoppedcycle: cycle_in(s, STOPPED_TICKS, STOPPED_MARKS),
+        brokendowncycle: cycle_in(s, BROKEN_DOWN_TICKS, BROKEN_DOWN_MARKS),
         log,
     }
 }

@@ -12,6 +12,10 @@ const LAYOUT: u8 = 1;
 
 // Yes or no, by their places: whether the filter is running, ignition, five marks of each cycle, whether a warning stands; and two
 // zeros, so that every number stands at a place that four divides, where the compiler compares it whole.
+const RUNNING: usize = 0;
+
+const IGNITION: usize = 1;
+
 const STOPPED_MARKS: usize = 2;
 
 const BROKEN_DOWN_MARKS: usize = STOPPED_MARKS + 5;
@@ -20,7 +24,23 @@ const SENT: usize = BROKEN_DOWN_MARKS + 5;
 
 const FLAGS: usize = SENT + 3;
 
-// The numbers before the runs.
+// The numbers before the runs, by their places.
+const TAKEN: usize = 0;
+
+const FILTER_BITS: usize = 1;
+
+const STOPPED_TICKS: usize = 2;
+
+const BROKEN_DOWN_TICKS: usize = 3;
+
+const STARTED: usize = 4;
+
+const COUNTED: usize = 5;
+
+const LAST_CANCEL: usize = 6;
+
+const EVENTS: usize = 7;
+
 const NUMBERS: usize = 8;
 
 // The parts of an image, one behind the other: yes or no, the standing warning's record, the numbers, the runs.

@@ -1,6 +1,7 @@
 use native.Mathlib.Omega.{arith}
 use Rattle.history.specs.State.{withSample, step}
 use Rattle.engine.proofs.StepFits.{view-fits, events-more}
+use Rattle.history.specs.Ranges.{eventsPlace}
 use borrow.Author.Needs.{needs}
 use Rattle.engine.proofs.stepping.stepped.Statement.{statement}
 use Rattle.engine.proofs.stepping.stepped.Tie as tie
@@ -16,11 +17,11 @@ decide-requires c κs = view-fits _ _ _ _ (c .before .before .pre) (c .before .w
 
 logged-notice-requires : tie.Need-logged-notice-requires
 unfolding withSample
-logged-notice-requires c κs = rw (c .before .before .before .with-sample .ensures) (omega (arith, c .before .before .before .before .pre .room, c .before .before .before .before .pre .fits .counts 5))
+logged-notice-requires c κs = rw (c .before .before .before .with-sample .ensures) (omega (arith, c .before .before .before .before .pre .room, c .before .before .before .before .pre .fits .counts eventsPlace))
 
 logged-notice-requires-2 : tie.Need-logged-notice-requires-2
 unfolding withSample
-logged-notice-requires-2 c κs = rw (c .logged-notice .ensures, c .before .before .before .before .with-sample .ensures) (omega (arith, c .before .before .before .before .before .pre .room, c .before .before .before .before .before .pre .fits .counts 5, events-more (c .before .before .before .before .before .args .s .log) (c .before .before .decide .result .cancel)))
+logged-notice-requires-2 c κs = rw (c .logged-notice .ensures, c .before .before .before .before .with-sample .ensures) (omega (arith, c .before .before .before .before .before .pre .room, c .before .before .before .before .before .pre .fits .counts eventsPlace, events-more (c .before .before .before .before .before .args .s .log) (c .before .before .decide .result .cancel)))
 
 with-log-requires : tie.Need-with-log-requires
 with-log-requires c κs = search needs

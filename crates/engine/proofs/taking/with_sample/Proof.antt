@@ -1,5 +1,6 @@
 use native.Mathlib.Omega.{arith}
 use Rattle.engine.proofs.StateTaken.{runs-fit, sample-made}
+use Rattle.history.specs.Ranges.{stoppedPlace, brokenDownPlace}
 use borrow.Author.Needs.{needs}
 use Rattle.engine.proofs.taking.with_sample.Statement.{statement}
 use Rattle.engine.proofs.taking.with_sample.Tie as tie
@@ -36,7 +37,7 @@ goes-on-requires c κs = search needs
 cycle-after-requires : tie.Need-cycle-after-requires
 cycle-after-requires c κs =
     let k = c .before .before .before .before .before .before .before .before .before .before .before .before .before .pre in
-    omega (arith, k .room, k .fits .counts 0)
+    omega (arith, k .room, k .fits .counts stoppedPlace)
 
 goes-on-requires-2 : tie.Need-goes-on-requires-2
 goes-on-requires-2 c κs = search needs
@@ -44,7 +45,7 @@ goes-on-requires-2 c κs = search needs
 cycle-after-requires-2 : tie.Need-cycle-after-requires-2
 cycle-after-requires-2 c κs =
     let k = c .before .before .before .before .before .before .before .before .before .before .before .before .before .before .before .pre in
-    omega (arith, k .room, k .fits .counts 1)
+    omega (arith, k .room, k .fits .counts brokenDownPlace)
 
 returns : tie.Need-returns
 returns c =

@@ -1,5 +1,6 @@
 use native.Mathlib.Omega.{arith}
 use Rattle.engine.proofs.StateSeen.{runs-still-fit, seen-made}
+use Rattle.history.specs.Ranges.{countedPlace, lastCancelPlace}
 use borrow.Author.Needs.{needs}
 use Rattle.engine.proofs.viewing.seen.Statement.{statement}
 use Rattle.engine.proofs.viewing.seen.Tie as tie
@@ -20,13 +21,13 @@ quality-from-requires : tie.Need-quality-from-requires
 quality-from-requires c κs =
     let counted = c .before .before .before .before .before in
     let pre = counted .before .before .before .before .before .before .pre in
-    (omega (arith, counted .counted-from .ensures, pre .0 .room, pre .0 .fits .counts 4), runs-still-fit _ _ _ (pre .0) (pre .1))
+    (omega (arith, counted .counted-from .ensures, pre .0 .room, pre .0 .fits .counts lastCancelPlace), runs-still-fit _ _ _ (pre .0) (pre .1))
 
 quality-from-requires-2 : tie.Need-quality-from-requires-2
 quality-from-requires-2 c κs =
     let counted = c .before .before .before .before .before .before in
     let pre = counted .before .before .before .before .before .before .pre in
-    (omega (arith, pre .0 .room, pre .0 .fits .counts 3), runs-still-fit _ _ _ (pre .0) (pre .1))
+    (omega (arith, pre .0 .room, pre .0 .fits .counts countedPlace), runs-still-fit _ _ _ (pre .0) (pre .1))
 
 returns : tie.Need-returns
 returns c =
