@@ -18,10 +18,12 @@ BY_HAND = {
     "low-severity": "low_severity_stop",
     "is-new": "is_a_new",
 }
-LISTS = {"append", "take", "drop", "replicate", "length", "set", "get_or", "nat_abs"}
+# A lemma about two of these keeps the dash between them.
+FUNCTIONS = {"append", "take", "drop", "replicate", "length", "nat_abs", "splice", "overlay", "encode"}
+FUNCTIONS |= {"all_zero", "samples_in", "block_with", "unused_in", "first_samples", "bytes", "bytes_at", "bytes_of", "little", "word"}
 NAME = re.compile(r"[^\W\d_][\w'\u2080-\u2089-]*")
-DEFINED = re.compile(r"^(?:abbrev |unfoldable )?(?:pub )?(?:(?:record|data|ruleset) )?([^\s(){}:]+)(?: [({].*?)? : (.*(?:\n .*)*)", re.M)
-FIELD = re.compile(r"^  (?:pub )?(?:constructor )?([^\s(){}:]+) : (.*)", re.M)
+DEFINED = re.compile(r"^(?:abbrev |unfoldable )?(?:pub )?(?:(?:record|data|ruleset) )?([^\s(){}:]+)(?: [({].*?)?\s+: ", re.M)
+FIELD = re.compile(r"^(?:  |  pub | +pub )([^\s(){}:]+) : ", re.M)
 
 
 def files(*patterns):
@@ -33,36 +35,36 @@ def snake(name):
 
 
 def definitions():
-    """Each name with the texts of what it is defined as."""
-    found = {}
+    """The names that specs/ and proofs/ define; those of a function's own proof are Rattle's."""
+    found = set()
     for f in files("crates/*/specs/**/*.antt", "crates/*/proofs/**/*.antt"):
-        if f.endswith("/Proof.antt"):
+        if f.endswith(("/Proof.antt", "/Answers.antt", "/Invariants.antt")):
             continue
         text = open(f, encoding="utf-8").read()
-        for m in list(DEFINED.finditer(text)) + list(FIELD.finditer(text)):
-            found.setdefault(m.group(1), []).append(m.group(2))
+        found |= {m.group(1) for m in list(DEFINED.finditer(text)) + list(FIELD.finditer(text))}
     return found
 
 
-def joins_functions(name, texts, functions):
-    parts = name.split("-")
+def joined(name):
+    """The name with a dash between the two functions that it joins, or None."""
+    parts = [snake(p) for p in name.split("-")]
     for k in range(1, len(parts)):
-        left, right = "-".join(parts[:k]), "-".join(parts[k:])
-        if all(x in functions and any(x in NAME.findall(t) for t in texts) for x in (left, right)):
-            return snake(left).replace("-", "_") + "-" + snake(right).replace("-", "_")
+        left, right = "_".join(parts[:k]), "_".join(parts[k:])
+        if left in FUNCTIONS and right in FUNCTIONS:
+            return left + "-" + right
     return None
 
 
 def renamings():
     found = definitions()
-    functions = LISTS | {n for n in found if "-" not in n and n[:1].islower()}
-    taken = {snake(n) for n in functions if n[:1].islower()}
+    functions = {n for n in found if "-" not in n and n[:1].islower()}
+    taken = {snake(n) for n in functions}
     names = {}
     for n in found:
         if not n[:1].islower():
             continue
         if "-" in n:
-            new = BY_HAND.get(n) or joins_functions(n, found[n], functions)
+            new = BY_HAND.get(n) or joined(n)
             if not new:
                 new = snake(n).replace("-", "_")
                 if new in taken:

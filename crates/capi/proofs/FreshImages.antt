@@ -18,9 +18,9 @@ use Rattle.capi.specs.ImageDemand.{ImageDemand, FreshImaged}
 use Rattle.capi.proofs.ImageCalls.{image_written}
 use Rattle.capi.proofs.ImageDemandHolds.{image_demand_holds}
 
-fresh-runs : length fresh.runs ≡ run_count
+fresh_runs : length fresh.runs ≡ run_count
 unfolding fresh
-fresh-runs = refl
+fresh_runs = refl
 
 module _ (before : List ℕ) where
   pub fresh_refused : (length before ≡ image_size → ⊥) → FreshImaged before (negsuc 20) before
@@ -34,7 +34,7 @@ module _ (before : List ℕ) where
   pub fresh_written : (s : State) (bytes after : List ℕ) → length before ≡ image_size → s ≡ fresh → bytes ≡ image_of s → after ≡ splice before 0 bytes → FreshImaged before (pos 0) after
   unfolding fresh_number fresh_image fresh_fault first_fault outcome answer_number
   fresh_written s bytes after h f g e =
-      let w : after ≡ image_of fresh = e ∙ ap (λ (l : List ℕ). splice before 0 l) (g ∙ ap image_of f) ∙ image_written fresh before fresh-runs h in
+      let w : after ≡ image_of fresh = e ∙ ap (λ (l : List ℕ). splice before 0 l) (g ∙ ap image_of f) ∙ image_written fresh before fresh_runs h in
       record {
         answer = simp (eq-eqb _ _ h);
         image = simp (eq-eqb _ _ h) w;

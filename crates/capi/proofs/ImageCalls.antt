@@ -14,7 +14,7 @@ use mir.Val.{to_z, of_z, SFits}
 use Rattle.wire.specs.declared.Answer.{Answer}
 use Rattle.wire.specs.Memory.{splice, overlay}
 use Rattle.wire.specs.Outcome.{accepted, refused, outcome, answered}
-use Rattle.wire.proofs.FirstFault.{outcome-refused, memory_refused}
+use Rattle.wire.proofs.FirstFault.{outcome_refused, memory_refused}
 use Rattle.wire.proofs.Splice.{splice-overlay}
 use Rattle.sample.specs.declared.Sample.{Sample}
 use Rattle.history.specs.declared.State.{State}
@@ -62,7 +62,7 @@ module _ (image : List ℕ) (c : Call) where
   image_refused n r f z e =
       let k : image_fault image c ≡ 0 → ⊥ = λ q. z (f ∙ q) in
       record {
-        answer = e ∙ sym (ap answer_number (outcome-refused (image_fault image c) (length (steps_give unit_settings (state_in image) (samples_added c))) k ∙ ap refused (sym f)));
+        answer = e ∙ sym (ap answer_number (outcome_refused (image_fault image c) (length (steps_give unit_settings (state_in image) (samples_added c))) k ∙ ap refused (sym f)));
         image = simp (ne_eqb _ _ k);
         output = sym (memory_refused (image_fault image c) _ (lent c) k);
       }
@@ -74,11 +74,11 @@ module _ (image : List ℕ) (c : Call) where
     fault-same = rw (i, (is_image_lem image i).range)
 
     -- the promise, from the engine's and from what `finish` does, with the number as `finish` gave it
-    pub image-meets : (s : State) → state_in image ≡ s → (next : State) (r : Answer) (z : ℤ) (imageLast outLast : List ℕ) → SFits w32 z
+    pub image_meets : (s : State) → state_in image ≡ s → (next : State) (r : Answer) (z : ℤ) (imageLast outLast : List ℕ) → SFits w32 z
         → (z ≡ answer_number (answered r)) × (imageLast ≡ image_kept (answered r) next image)
         → Meets s c next r outLast
         → ImageMeets image c (to_z w32 (of_z w32 z)) imageLast outLast
-    image-meets s same next r z imageLast outLast f p m =
+    image_meets s same next r z imageLast outLast f p m =
         let n : state_fault s c ≡ image_fault image c = rw (← same) fault-same in
         let a : answered r ≡ call_answer (image_fault image c) (samples_added c) (state_in image) = m.answer ∙ rw (n, same) in
         let t : next ≡ call_state (image_fault image c) (samples_added c) (state_in image) = m.state ∙ rw (n, same) in

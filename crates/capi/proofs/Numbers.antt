@@ -44,12 +44,12 @@ module _ (a : Answer) (n : ℕ) where
     unfolding given_count
     small = rw e at few
 
-    pub given-fits : SFits w32 (pos n)
-    given-fits = let h = small in record { sfits = omega arith }
+    pub given_fits : SFits w32 (pos n)
+    given_fits = let h = small in record { sfits = omega arith }
 
-    pub given-number : to_z w32 n ≡ answer_number (answered a)
+    pub given_number : to_z w32 n ≡ answer_number (answered a)
     unfolding answer_number answered
-    given-number = let h = small in to_z_pos w32 {n = n} (omega arith) ∙ rw e refl
+    given_number = let h = small in to_z_pos w32 {n = n} (omega arith) ∙ rw e refl
 
   pub refused_number : (z : ℤ) → a ≡ Refused n → SFits w32 z → z ≡ neg_ℤ (pos n) → to_z w32 (of_z w32 z) ≡ answer_number (answered a)
   unfolding answer_number answered

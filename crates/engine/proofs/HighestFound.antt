@@ -54,9 +54,9 @@ module _ (S : Settings) (v : View) (first second crash : Bool) (below i : ℕ)
     left-highest : first_by table below (drop i by_rank) ≡ highest S v
     left-highest = sym passed ∙ rw (cycle1, cycle2, crashed, standing) (first_highest S v)
 
-    pub found-highest : (r : ℕ) → i < warning_count → r ≡ rank (get_or by_rank i 0) → get_or table (get_or by_rank i 0) false && ltb below r ≡ true → get_or by_rank i 0 ≡ highest S v
-    found-highest r within ranked o = sym (finds table below i r within ranked o) ∙ left-highest
+    pub found_highest : (r : ℕ) → i < warning_count → r ≡ rank (get_or by_rank i 0) → get_or table (get_or by_rank i 0) false && ltb below r ≡ true → get_or by_rank i 0 ≡ highest S v
+    found_highest r within ranked o = sym (finds table below i r within ranked o) ∙ left-highest
 
-    pub none-highest : i ≡ warning_count → 0 ≡ highest S v
+    pub none_highest : i ≡ warning_count → 0 ≡ highest S v
     unfolding first_by
-    none-highest e = rw e at left-highest
+    none_highest e = rw e at left-highest

@@ -18,9 +18,9 @@ use Rattle.filter.proofs.NextLaws.{next_missing, next_first, next_later}
 use Rattle.filter.proofs.RangeUnits.{one, reading_units, measured_valid}
 use Rattle.filter.proofs.BlendOutcome.{blend_outcome}
 
-blend-fits : (f x : Float) → T (fits binary32 (blend f x))
+blend_fits : (f x : Float) → T (fits binary32 (blend f x))
 unfolding blend
-blend-fits f x = add-fits binary32 f (mul binary32 (sub binary32 x f) quarter)
+blend_fits f x = add-fits binary32 f (mul binary32 (sub binary32 x f) quarter)
 
 reading_valid : (s : Filter) (x : ℕ) → x ≤ 16382 → Valid s → Valid (next s x)
 reading_valid Empty x h v =
@@ -28,7 +28,7 @@ reading_valid Empty x h v =
     rw (next_first x h) (measured_valid (as_f32 x) (x * one) t (reading_units x h) (mul-le-mul_right one h))
 reading_valid (Running f) x h v =
     let o = blend_outcome f x v h in
-    rw (next_later f x h) (measured_valid (blend f (as_f32 x)) o.size (blend-fits f (as_f32 x)) o.units o.most)
+    rw (next_later f x h) (measured_valid (blend f (as_f32 x)) o.size (blend_fits f (as_f32 x)) o.units o.most)
 
 -- one step: the range is kept by every reading, and by a missing one
 pub next_valid : (s : Filter) (x : ℕ) → x ≤ no_reading → Valid s → Valid (next s x)

@@ -1,4 +1,6 @@
 // The speed filter of document 01, "Standing still": it smooths the readings of the speed in cm/s.
+#![tactic(auto)]
+
 ghost use Rattle.std.specs.Prelude.{◌≡◌};
 ghost use Rattle.std.specs.Float.{binary32};
 ghost use Rattle.std.specs.Float.Ieee.{to_bits};
@@ -10,7 +12,7 @@ use sample::NO_READING;
 const REST: u32 = 2;
 
 // Without a reading yet, or running with its value.
-#[derive(Drop)]
+#[derive(Clone, Copy)]
 pub enum Filter {
     Empty,
     Running(f32),

@@ -15,11 +15,11 @@ use Rattle.history.specs.Rules.{Settings, highest, report_of, cancel_of, cancel_
 use Rattle.history.specs.History.{Past, is_new, is_cancel, messages, standing_after, standing, events, view_of, given_at, tick_of, after, given_during}
 
 -- the messages of a history, the newest first, are those given during it, in their order, turned round
-pub messages-after : (S : Settings) (past : Past) (xs : List Sample) → messages (after S past xs) ≡ reverse_aux (given_during S past xs) (messages past)
+pub messages_after : (S : Settings) (past : Past) (xs : List Sample) → messages (after S past xs) ≡ reverse_aux (given_during S past xs) (messages past)
 unfolding messages after given_during tick_of
-messages-after S past [] = refl
-messages-after S past (x ∷ xs) =
-    messages-after S (tick_of S x past ∷ past) xs
+messages_after S past [] = refl
+messages_after S past (x ∷ xs) =
+    messages_after S (tick_of S x past ∷ past) xs
     ∙ sym (reverse_aux-append (given_at S x past) (given_during S (tick_of S x past ∷ past) xs) (messages past))
 
 -- how many Cancels come before the next New, by the messages so far, the newest first
@@ -117,7 +117,7 @@ pub given_in_order : (S : Settings) (xs : List Sample) → InOrder (messages (af
 given_in_order S xs = (ordered_after S [] xs ordered_none).0
 
 -- what stands has the event of the newest New
-pub standing-event : (S : Settings) (xs : List Sample) (p : Message) → standing (after S [] xs) ≡ Sent p → p.event ≡ events (messages (after S [] xs))
-standing-event S xs p e =
+pub standing_event : (S : Settings) (xs : List Sample) (p : Message) → standing (after S [] xs) ≡ Sent p → p.event ≡ events (messages (after S [] xs))
+standing_event S xs p e =
     let a : Agrees (messages (after S [] xs)) (Sent p) = rw e at (ordered_after S [] xs ordered_none).1 in
     a.1

@@ -26,9 +26,9 @@ had_by (b ∷ column) (suc zero) e = (omega arith, omega arith)
 had_by (b ∷ column) (suc (suc w)) e = let r = had_by column (suc w) e in (omega arith, omega (arith, r.1))
 
 -- no number but a warning triggers
-triggers-warning : (S : Settings) (v : View) (warning : ℕ) → triggers S v warning ≡ true → (1 ≤ warning) × (warning ≤ warning_count)
+triggers_warning : (S : Settings) (v : View) (warning : ℕ) → triggers S v warning ≡ true → (1 ≤ warning) × (warning ≤ warning_count)
 unfolding triggers
-triggers-warning S v warning e = had_by (cycle_triggers S v.stoppedcycle ∷ cycle_triggers S v.brokendowncycle ∷ crash_triggers v ∷ []) warning e
+triggers_warning S v warning e = had_by (cycle_triggers S v.stoppedcycle ∷ cycle_triggers S v.brokendowncycle ∷ crash_triggers v ∷ []) warning e
 
 -- "A warning outranking the standing one triggers"
 pub record Overruling (S : Settings) (v : View) (warning : ℕ) : Type 0 where
@@ -41,7 +41,7 @@ pub overruling : (S : Settings) (v : View) (warning : ℕ) → overrules S v war
 unfolding overrules
 overruling S v warning o =
     let b = both_true (triggers S v warning) (ltb (standing_rank v.standing) (rank warning)) o in
-    let r = triggers-warning S v warning b.0 in
+    let r = triggers_warning S v warning b.0 in
     record { triggered = b.0; outranks = ltb-true _ _ b.1; low = r.0; high = r.1 }
 
 module _ (S : Settings) (v : View) where

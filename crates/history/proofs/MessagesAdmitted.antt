@@ -28,7 +28,7 @@ use Rattle.history.proofs.GivenInOrder.{either}
 use Rattle.history.proofs.HighestInWords.{Overruling, highest_overrules}
 use Rattle.history.proofs.Reached.{tick_with, IfSent, LastReport, Reached, reached_none, quality_at_most_3, still_counted, given_aside, crash_counted}
 use Rattle.history.proofs.ReportAdmitted.{report_admitted, cancel_admitted}
-use Rattle.history.proofs.TickNumbers.{size-after}
+use Rattle.history.proofs.TickNumbers.{size_after}
 
 -- none of the samples is refused by 3 to 8
 abbrev pub AllAccepted : List Sample → Type 0
@@ -225,7 +225,7 @@ unfolding after given_during size
 from_reached S past [] r a most = (r, tt)
 from_reached S past (x ∷ xs) r a most =
     let f = fields_clear x a.0 in
-    let l = size-after S (tick_of S x past ∷ past) xs in
+    let l = size_after S (tick_of S x past ∷ past) xs in
     let rest = from_reached S (tick_of S x past ∷ past) xs (reached_more S x past r f (omega arith)) a.1 most in
     (rest.0, all_appended (given_at S x past) (given_during S (tick_of S x past ∷ past) xs) (given_admitted S x past r f (omega arith)) rest.1)
 

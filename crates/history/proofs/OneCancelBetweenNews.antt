@@ -12,7 +12,7 @@ use Rattle.message.specs.declared.Message.{Message}
 use Rattle.history.specs.Rules.{Settings}
 use Rattle.history.specs.History.{is_new, messages, events, given_during}
 use Rattle.history.specs.Standing.{cancels}
-use Rattle.history.proofs.GivenInOrder.{due, ComesNext, InOrder, in_order_before, messages-after, given_in_order}
+use Rattle.history.proofs.GivenInOrder.{due, ComesNext, InOrder, in_order_before, messages_after, given_in_order}
 use Rattle.history.proofs.GivenInOrder.ComesNext.{a_new, an_update, a_cancel}
 
 until_new : (mid : List Message) (m : Message) (b ms : List Message) → m.kind ≡ new → events mid ≡ 0
@@ -37,6 +37,6 @@ pub one_cancel_between_news : (S : Settings) (xs : List Sample) (a : List Messag
 unfolding messages due
 one_cancel_between_news S xs a n mid m b e first second none =
     let o : InOrder (reverse_aux (n ∷ (mid ++ (m ∷ b))) (reverse_aux a [])) =
-    rw (messages-after S [] xs, e, reverse_aux-append) at (given_in_order S xs) in
+    rw (messages_after S [] xs, e, reverse_aux-append) at (given_in_order S xs) in
     let k : n.kind ≡ new = eqb-true n.kind new first in
     until_new mid m b (n ∷ reverse_aux a []) (eqb-true m.kind new second) none o ∙ rw k

@@ -34,10 +34,10 @@ at_exists p (t ∷ past) k e = go (eqb k (size past)) refl e (at_exists p past k
 -- ---- the ticks of samples
 
 -- each sample adds a tick
-pub size-after : (S : Settings) (past : Past) (xs : List Sample) → size (after S past xs) ≡ size past + length xs
+pub size_after : (S : Settings) (past : Past) (xs : List Sample) → size (after S past xs) ≡ size past + length xs
 unfolding after size
-size-after S past [] = omega arith
-size-after S past (x ∷ xs) = size-after S (tick_of S x past ∷ past) xs ∙ omega arith
+size_after S past [] = omega arith
+size_after S past (x ∷ xs) = size_after S (tick_of S x past ∷ past) xs ∙ omega arith
 
 -- more samples come after those before them
 pub after_append : (S : Settings) (past : Past) (xs ys : List Sample) → after S past (xs ++ ys) ≡ after S (after S past xs) ys
@@ -57,6 +57,6 @@ pub tick_of_sample : (S : Settings) (p : Fact) (xs : List Sample) (x : Sample) (
 unfolding size after
 tick_of_sample S p xs x ys =
     let past = after S [] xs in
-    let e : size past ≡ length xs = size-after S [] xs ∙ omega arith in
+    let e : size past ≡ length xs = size_after S [] xs ∙ omega arith in
     rw (after_append S [] xs (x ∷ ys), ← e)
     (at_before S p (tick_of S x past ∷ past) ys (size past) (omega arith) ∙ at_newest p (tick_of S x past) past)

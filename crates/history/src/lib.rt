@@ -1,5 +1,6 @@
 // The engine's state, and what it looks at and gives at a tick. The rules, the history reading and the theorem that the state's
 // step finds the same are in specs/ and proofs/; the code of the step is the crate `engine`.
+#![tactic(auto)]
 use filter::Filter;
 use message::Message;
 use sample::Sample;
@@ -35,14 +36,14 @@ pub const NO_LOW: usize = 11;
 pub const NO_HIGH: usize = 12;
 
 // A message, or none.
-#[derive(Drop)]
+#[derive(Clone, Copy)]
 pub enum Notice {
     Nothing,
     Sent(Message),
 }
 
 // A detection cycle of warning 1 or 2: its ticks, which of conditions a to d were fulfilled in it, and whether one of e to h was.
-#[derive(Drop)]
+#[derive(Clone, Copy)]
 pub struct Cycle {
     pub ticks: u32,
     pub park: bool,
@@ -53,7 +54,7 @@ pub struct Cycle {
 }
 
 // Which of conditions a to d are fulfilled now, and whether one of e to h is.
-#[derive(Drop)]
+#[derive(Clone, Copy)]
 pub struct Conditions {
     pub park: bool,
     pub idle: bool,
@@ -64,7 +65,7 @@ pub struct Conditions {
 
 // What is kept of the messages given: the standing warning's last New or Update, the tick of the last New and the first tick that
 // it counted, the tick of the last Cancel of warning 3, and the number of News.
-#[derive(Drop)]
+#[derive(Clone, Copy)]
 pub struct Log {
     pub standing: Notice,
     pub started: u32,
@@ -73,7 +74,7 @@ pub struct Log {
     pub events: u32,
 }
 
-#[derive(Drop)]
+#[derive(Clone, Copy)]
 pub struct State {
     pub taken: u32,
     pub filter: Filter,
@@ -86,7 +87,7 @@ pub struct State {
 
 // What is looked at to decide at a tick. `recent` and `kept` are the highest qualities of the happenings that a New of warning 3
 // counts now, and that the last New counted or that came since.
-#[derive(Drop)]
+#[derive(Clone, Copy)]
 pub struct View {
     pub tick: u32,
     pub sample: Sample,
@@ -105,13 +106,13 @@ pub struct View {
 }
 
 // What is given at a tick: a Cancel or none, and then a New or an Update or none.
-#[derive(Drop)]
+#[derive(Clone, Copy)]
 pub struct Decision {
     pub cancel: Notice,
     pub report: Notice,
 }
 
-#[derive(Drop)]
+#[derive(Clone, Copy)]
 pub struct Stepped {
     pub state: State,
     pub decision: Decision,

@@ -25,10 +25,10 @@ module _ (running : Bool) (bits : ℕ) where
   filter_empty h = rw (not-true running h)
 
   module _ (h : not running ≡ false) where
-    pub filter-nan : nan_test bits ≡ true → Empty ≡ filter_in running bits
+    pub filter_nan : nan_test bits ≡ true → Empty ≡ filter_in running bits
     unfolding filter_in
-    filter-nan e = rw (not-false running h, nan_test_lem bits, e)
+    filter_nan e = rw (not-false running h, nan_test_lem bits, e)
 
-    pub filter-value : nan_test bits ≡ false → Running (of_bits binary32 bits) ≡ filter_in running bits
+    pub filter_value : nan_test bits ≡ false → Running (of_bits binary32 bits) ≡ filter_in running bits
     unfolding filter_in
-    filter-value e = rw (not-false running h, nan_test_lem bits, e)
+    filter_value e = rw (not-false running h, nan_test_lem bits, e)

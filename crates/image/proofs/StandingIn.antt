@@ -18,10 +18,10 @@ module _ (sent : Bool) (bytes : List ℕ) where
   standing_none h = rw (not-true sent h)
 
   module _ (r : Reading) (t : not sent ≡ false) (e : reading r ≡ message_read bytes) where
-    pub standing-read : (m : Message) → r ≡ Accepted m → Sent m ≡ standing_in sent bytes
+    pub standing_read : (m : Message) → r ≡ Accepted m → Sent m ≡ standing_in sent bytes
     unfolding standing_in notice_of reading
-    standing-read m f = rw (not-false sent t, ← e, f)
+    standing_read m f = rw (not-false sent t, ← e, f)
 
-    pub standing-refused : (n : ℕ) → r ≡ Refused n → Nothing ≡ standing_in sent bytes
+    pub standing_refused : (n : ℕ) → r ≡ Refused n → Nothing ≡ standing_in sent bytes
     unfolding standing_in notice_of reading
-    standing-refused n f = rw (not-false sent t, ← e, f)
+    standing_refused n f = rw (not-false sent t, ← e, f)

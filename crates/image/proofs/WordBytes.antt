@@ -9,7 +9,7 @@ use lib.ListN.{length, get_or, take, length-take}
 use lib.Seq.{take-suc, take_all, get_or-append-add}
 use Rattle.wire.specs.Words.{little, bytes_of, bytes_at, word}
 use Rattle.wire.specs.Memory.{splice}
-use Rattle.wire.proofs.Words.{little_bytes_of}
+use Rattle.wire.proofs.Words.{little-bytes_of}
 use Rattle.wire.proofs.Splice.{splice_join, splice_nil}
 use Rattle.image.specs.Image.{word_bytes}
 
@@ -70,7 +70,7 @@ Fit ws = (i : ℕ) → get_or ws i 0 < 256 ^ 4
 
 word_first : (w : ℕ) (rest : List ℕ) → w < 256 ^ 4 → word 4 (bytes_of 4 w ++ rest) 0 ≡ w
 unfolding bytes_of bytes_at
-word_first w rest h = little_bytes_of 4 w h
+word_first w rest h = little-bytes_of 4 w h
 
 word_next : (w k : ℕ) (rest : List ℕ) → word 4 (bytes_of 4 w ++ rest) (4 * suc k) ≡ word 4 rest (4 * k)
 unfolding bytes_of

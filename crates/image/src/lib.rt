@@ -1,4 +1,5 @@
 // The engine's state as an image of `BYTES` bytes, so that a unit can keep it over a restart.
+#![tactic(auto)]
 mod decoding;
 mod encoding;
 
@@ -55,7 +56,7 @@ const RUNS_AT: usize = WORDS_AT + 4 * NUMBERS;
 pub const BYTES: usize = RUNS_AT + 4 * RUNS;
 
 // What loading finds: the state, and the number that refuses the image, 0 for an accepted one. With a refusal the state is a fresh one.
-#[derive(Drop)]
+#[derive(Clone, Copy)]
 pub struct Loading {
     pub state: State,
     pub fault: u8,

@@ -17,7 +17,7 @@ use Rattle.wire.specs.declared.Answer.{Answer}
 use Rattle.wire.specs.Memory.{memory}
 use Rattle.wire.specs.Outcome.{first_fault, outcome, accepted, answered}
 use Rattle.wire.specs.Tests.{all_hold}
-use Rattle.wire.proofs.Words.{little_bytes_of, bytes_of_word, word_below, bytes_at_all}
+use Rattle.wire.proofs.Words.{little-bytes_of, bytes_of-word, word_below, bytes_at_all}
 use Rattle.wire.proofs.FirstFault.{accepted_clear, clear_first, memory_accepted}
 use Rattle.wire.proofs.Splice.{overlay-take}
 use Rattle.wire.proofs.Tests.{holds_at, holds_true, true_holds, neither}
@@ -43,7 +43,7 @@ inside_fits (negsuc n) t = let h = nltb→le 1000000 (suc n) t in record { sfits
 coordinate_again : (z : ℤ) → T (not (outside z)) → to_z w32 (little (bytes_of 4 (of_z w32 z))) ≡ z
 coordinate_again z t =
     let f = inside_fits z t in
-    ap (to_z w32) (little_bytes_of 4 (of_z w32 z) (Fits-of_z {w = w32} {z = z} f).fits) ∙ signed_again z f
+    ap (to_z w32) (little-bytes_of 4 (of_z w32 z) (Fits-of_z {w = w32} {z = z} f).fits) ∙ signed_again z f
 
 position_again : (p : Position) → T (not (beyond p))
     → ◌≡◌ {A = Position} (record { east = to_z w32 (little (bytes_of 4 (of_z w32 p.east))); north = to_z w32 (little (bytes_of 4 (of_z w32 p.north))) }) p
@@ -86,12 +86,12 @@ unfolding message_of encode bytes_at bytes_of
 fields_again m t =
     let a = admitted m t in
     fields_made m _ _ _ _ _ _
-    (little_bytes_of 4 m.event (omega (arith, a.event_high)))
-    (little_bytes_of 4 m.detection (omega (arith, a.detection, a.reference)))
-    (little_bytes_of 4 m.reference (omega (arith, a.reference)))
+    (little-bytes_of 4 m.event (omega (arith, a.event_high)))
+    (little-bytes_of 4 m.detection (omega (arith, a.detection, a.reference)))
+    (little-bytes_of 4 m.reference (omega (arith, a.reference)))
     (position_again m.position a.position)
-    (little_bytes_of 2 m.heading (omega (arith, a.heading)))
-    (little_bytes_of 2 m.validity (either_small m.validity (validity_of m.warning true) (validity_of m.warning false) (validity_below m.warning true) (validity_below m.warning false) a.validity))
+    (little-bytes_of 2 m.heading (omega (arith, a.heading)))
+    (little-bytes_of 2 m.validity (either_small m.validity (validity_of m.warning true) (validity_of m.warning false) (validity_below m.warning true) (validity_below m.warning false) a.validity))
 
 derived_again : (m : Message) → derived_fit (encode m) ≡ true
 unfolding derived_fit encode all_hold
@@ -110,7 +110,7 @@ written_reads_back m t =
 -- ---- read, then written
 
 four_bytes : (s : List ℕ) (p : ℕ) → Bytes s → bytes_of 4 (of_z w32 (to_z w32 (word 4 s p))) ≡ bytes_at 4 s p
-four_bytes s p h = ap (bytes_of 4) (of_z-to_z {w = w32} {n = word 4 s p} (record { fits = word_below 4 s p h })) ∙ bytes_of_word 4 s p h
+four_bytes s p h = ap (bytes_of 4) (of_z-to_z {w = w32} {n = word 4 s p} (record { fits = word_below 4 s p h })) ∙ bytes_of-word 4 s p h
 
 bytes_made : (s e d f x y h v : List ℕ) (a b w : ℕ) → length s ≡ 32
     → a ≡ get_or s 2 0 → b ≡ get_or s 3 0 → w ≡ get_or s 6 0
@@ -126,8 +126,8 @@ bytes_again s h l t =
     let at : (k : ℕ) → T (get_or (eqb (get_or s 2 0) (row_of (get_or s 1 0)).subcause ∷ eqb (get_or s 3 0) (row_of (get_or s 1 0)).cause ∷ eqb (get_or s 6 0) (direction_of (get_or s 5 0)) ∷ []) k true) = holds_at _ t in
     bytes_made s _ _ _ _ _ _ _ _ _ _ l
     (sym (eqb→eq _ _ (at 0))) (sym (eqb→eq _ _ (at 1))) (sym (eqb→eq _ _ (at 2)))
-    (bytes_of_word 4 s 8 h) (bytes_of_word 4 s 12 h) (bytes_of_word 4 s 16 h)
-    (four_bytes s 20 h) (four_bytes s 24 h) (bytes_of_word 2 s 28 h) (bytes_of_word 2 s 30 h)
+    (bytes_of-word 4 s 8 h) (bytes_of-word 4 s 12 h) (bytes_of-word 4 s 16 h)
+    (four_bytes s 20 h) (four_bytes s 24 h) (bytes_of-word 2 s 28 h) (bytes_of-word 2 s 30 h)
 
 -- what is accepted is byte for byte what the writer makes, and the writer takes it
 pub accepted_is_written : (s : List ℕ) (m : Message) → Bytes s → message_read s ≡ accepted m → (encode m ≡ s) × T (admits m)

@@ -1,4 +1,6 @@
 // The 32-byte message record: its reader and its writer.
+#![tactic(auto)]
+
 ghost use Rattle.std.specs.Prelude.{◌≡◌, length};
 ghost use Rattle.message.specs.Message.{message_of, encode, admits, derived_fit, Found, Written};
 
@@ -7,7 +9,7 @@ use warnings::{CANCEL, NEW, WARNINGS};
 use wire::Answer;
 
 // The record's own numbers; sub cause, cause and direction follow from the warning and the road type.
-#[derive(Drop)]
+#[derive(Clone, Copy)]
 pub struct Message {
     pub kind: u8,
     pub warning: u8,
@@ -23,7 +25,7 @@ pub struct Message {
 }
 
 // What reading a record finds: the message, or the number of the first check that fails.
-#[derive(Drop)]
+#[derive(Clone, Copy)]
 pub enum Reading {
     Accepted(Message),
     Refused(u8),

@@ -1,4 +1,6 @@
 // What is known by a warning's number and by the road: the kinds, the warnings, the table per warning, road type and direction.
+#![tactic(auto)]
+
 ghost use Rattle.std.specs.Prelude.{◌≡◌};
 ghost use Rattle.warnings.specs.Warnings.{row_of, validity_of, road_type_of, direction_of};
 
@@ -23,7 +25,7 @@ pub const BY_RANK: [u8; WARNINGS as usize] = [POST_CRASH, BROKEN_DOWN, STOPPED];
 
 // What is constant for a warning: for the record and for the sender, its rank, the highest kind and the greatest quality
 // that refusal 14 admits, ticks for the engine, and seconds of validity with ignition on and off.
-#[derive(Drop)]
+#[derive(Clone, Copy)]
 pub struct Row {
     pub cause: u8,
     pub subcause: u8,
@@ -117,6 +119,7 @@ pub fn validity_of(warning: u8, ignition: bool) -> u16
     }
 }
 
+#[tactic(auto, unfolding(crate::specs::Warnings::road_type_of))]
 pub fn road_type_of(road: u8) -> u8
     ensures { result ≡ road_type_of road }
 {
@@ -129,6 +132,7 @@ pub fn road_type_of(road: u8) -> u8
     }
 }
 
+#[tactic(auto, unfolding(crate::specs::Warnings::direction_of))]
 pub fn direction_of(roadtype: u8) -> u8
     ensures { result ≡ direction_of roadtype }
 {

@@ -12,13 +12,13 @@ use Rattle.wire.specs.Outcome.{Check, first_fault, accepted, refused, outcome, a
 use Rattle.wire.specs.declared.Answer.TheVariants.{Given, Refused}
 
 module _ {A : Type 0} (fault : ℕ) (value : A) where
-  pub outcome-accepted : fault ≡ 0 → outcome fault value ≡ accepted value
+  pub outcome_accepted : fault ≡ 0 → outcome fault value ≡ accepted value
   unfolding outcome
-  outcome-accepted e = simp (eq-eqb _ _ e)
+  outcome_accepted e = simp (eq-eqb _ _ e)
 
-  pub outcome-refused : (fault ≡ 0 → ⊥) → outcome fault value ≡ refused fault
+  pub outcome_refused : (fault ≡ 0 → ⊥) → outcome fault value ≡ refused fault
   unfolding outcome
-  outcome-refused e = simp (ne_eqb _ _ e)
+  outcome_refused e = simp (ne_eqb _ _ e)
 
 -- an accepted call has no failing check, and gives its value
 pub accepted_clear : {A : Type 0} (fault : ℕ) (value a : A) → outcome fault value ≡ accepted a → (fault ≡ 0) × (value ≡ a)
@@ -96,8 +96,8 @@ module _ (fault value : ℕ) (bytes out : List ℕ) where
   unfolding answered
   call_refused n h e =
       let f : fault ≡ 0 → ⊥ = λ z. h (sym e ∙ z) in
-      (sym (outcome-refused fault value f ∙ ap refused e), sym (memory_refused fault bytes out f))
+      (sym (outcome_refused fault value f ∙ ap refused e), sym (memory_refused fault bytes out f))
 
   pub call_accepted : (last : List ℕ) → fault ≡ 0 → last ≡ overlay bytes out → (answered (Given value) ≡ outcome fault value) × (last ≡ memory fault bytes out)
   unfolding answered
-  call_accepted last e f = (sym (outcome-accepted fault value e), f ∙ sym (memory_accepted fault bytes out e))
+  call_accepted last e f = (sym (outcome_accepted fault value e), f ∙ sym (memory_accepted fault bytes out e))

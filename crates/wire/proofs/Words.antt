@@ -14,12 +14,12 @@ use borrow.Author.Tests.{ltb-true, ltb-false}
 use Rattle.wire.specs.Words.{little, bytes_of, bytes_at, word, Bytes}
 
 -- the k bytes of a number below 256 ^ k stand for that number
-pub little_bytes_of : (k n : ℕ) → n < 256 ^ k → little (bytes_of k n) ≡ n
+pub little-bytes_of : (k n : ℕ) → n < 256 ^ k → little (bytes_of k n) ≡ n
 unfolding little bytes_of
-little_bytes_of zero n h = omega arith
-little_bytes_of (suc k) n h =
+little-bytes_of zero n h = omega arith
+little-bytes_of (suc k) n h =
     let g : n < 256 ^ k * 256 = rw pow-suc at h in
-    let e = little_bytes_of k (n / 256) ((div-lt_iff_lt-mul {k = 256} {x = n} {y = 256 ^ k} (omega arith)).1 g) in
+    let e = little-bytes_of k (n / 256) ((div-lt_iff_lt-mul {k = 256} {x = n} {y = 256 ^ k} (omega arith)).1 g) in
     rw e (omega arith)
 
 -- what stands at any place is a byte
@@ -31,15 +31,15 @@ byte_at s h p = go (ltb p (length s)) refl
     go false e = rw (get_or-eq_default s 0 (ltb-false _ _ e)) (omega arith)
 
 -- the k bytes of the number at a place are the bytes that stand there
-pub bytes_of_word : (k : ℕ) (s : List ℕ) (p : ℕ) → Bytes s → bytes_of k (word k s p) ≡ bytes_at k s p
+pub bytes_of-word : (k : ℕ) (s : List ℕ) (p : ℕ) → Bytes s → bytes_of k (word k s p) ≡ bytes_at k s p
 unfolding little bytes_of bytes_at
-bytes_of_word zero s p h = refl
-bytes_of_word (suc k) s p h =
+bytes_of-word zero s p h = refl
+bytes_of-word (suc k) s p h =
     let n = word k s (p + 1) in
     let l = byte_at s h p in
     let m : (get_or s p 0 + 256 * n) % 256 ≡ get_or s p 0 = omega arith in
     let d : (get_or s p 0 + 256 * n) / 256 ≡ n = omega arith in
-    rw (m, d, bytes_of_word k s (p + 1) h)
+    rw (m, d, bytes_of-word k s (p + 1) h)
 
 -- the number at a place is below 256 ^ k
 pub word_below : (k : ℕ) (s : List ℕ) (p : ℕ) → Bytes s → word k s p < 256 ^ k
@@ -85,5 +85,5 @@ bytes_at_same zero s t p h = refl
 bytes_at_same (suc k) s t p h = rw (h p (omega arith), bytes_at_same k s t (p + 1) (λ i l. h i (omega arith)))
 
 -- so they are in a part that reaches beyond them
-pub bytes_at_take : (k n : ℕ) (s : List ℕ) (p : ℕ) → p + k ≤ n → bytes_at k (take n s) p ≡ bytes_at k s p
-bytes_at_take k n s p h = bytes_at_same k (take n s) s p (λ i l. get_or-take n s i 0 (omega arith))
+pub bytes_at-take : (k n : ℕ) (s : List ℕ) (p : ℕ) → p + k ≤ n → bytes_at k (take n s) p ≡ bytes_at k s p
+bytes_at-take k n s p h = bytes_at_same k (take n s) s p (λ i l. get_or-take n s i 0 (omega arith))

@@ -1,4 +1,6 @@
 // What every record shares: a call's answer, little-endian words, signed numbers, and copying into lent memory.
+#![tactic(auto)]
+
 ghost use Rattle.std.specs.Prelude.{◌≡◌, [], ◌∷◌, ◌+◌, get_or};
 ghost use Rattle.std.specs.Int.{w32};
 ghost use Rattle.std.proofs.Common.{to_z, of_z};
@@ -7,13 +9,14 @@ ghost use Rattle.wire.specs.Memory.{splice};
 ghost use Rattle.wire.specs.Outcome.{given_count};
 
 // What a call that writes records answers: how many it wrote, or why it wrote none.
-#[derive(Drop)]
+#[derive(Clone, Copy)]
 pub enum Answer {
     Given(usize),
     Refused(u8),
 }
 
 // The count of an answer, 0 for a refusal.
+#[tactic(auto, unfolding(crate::specs::Outcome::given_count))]
 pub fn given_count(answer: Answer) -> usize
     ensures { result ≡ given_count answer }
 {
@@ -51,6 +54,7 @@ pub fn word32(bytes: &[u8], at: usize) -> u32
 }
 
 // The number that 2 bytes stand for, the lower one first.
+#[tactic(auto, unfolding(crate::specs::Words::little))]
 pub fn little16(a: u8, b: u8) -> u16
     ensures { result ≡ little (a ∷ b ∷ []) }
 {
@@ -58,6 +62,7 @@ pub fn little16(a: u8, b: u8) -> u16
 }
 
 // The number that 4 bytes stand for, the lowest one first.
+#[tactic(auto, unfolding(crate::specs::Words::little))]
 pub fn little32(a: u8, b: u8, c: u8, d: u8) -> u32
     ensures { result ≡ little (a ∷ b ∷ c ∷ d ∷ []) }
 {
@@ -74,6 +79,7 @@ fn byte(bytes: &[u8], at: usize, k: usize) -> u8
     0
 }
 
+#[tactic(auto, unfolding(crate::specs::Words::bytes_of))]
 pub fn bytes16(n: u16) -> [u8; 2]
     ensures { result ≡ bytes_of 2 n }
 {
@@ -81,6 +87,7 @@ pub fn bytes16(n: u16) -> [u8; 2]
     [(n % 256) as u8, (n1 % 256) as u8]
 }
 
+#[tactic(auto, unfolding(crate::specs::Words::bytes_of))]
 pub fn bytes32(n: u32) -> [u8; 4]
     ensures { result ≡ bytes_of 4 n }
 {

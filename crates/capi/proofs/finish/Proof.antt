@@ -1,7 +1,7 @@
 use mathlib.Core.Path.{refl}
 use Rattle.wire.specs.Outcome.{answered}
 use Rattle.capi.specs.Imaged.{image_kept}
-use Rattle.capi.proofs.Numbers.{given-fits, given-number, refused_number}
+use Rattle.capi.proofs.Numbers.{given_fits, given_number, refused_number}
 use borrow.Author.Rules.{rules}
 use Rattle.capi.proofs.finish.Statement.{statement}
 use Rattle.capi.proofs.finish.Tie as tie
@@ -27,7 +27,7 @@ copy-at-requires c κs = search rules
 cast-result : tie.Need-overflow-cast-result
 cast-result c =
     let given = c.before.before.before.before.before.before.before.before in
-    given-fits _ _ given.answer2.given.1 given.before.before.before.requires
+    given_fits _ _ given.answer2.given.1 given.before.before.before.requires
 
 returns : tie.Need-returns
 unfolding image_kept answered
@@ -43,7 +43,7 @@ returns-2 c =
     let saved = copied.before.before.before in
     let given = saved.before.before.before in
     let e = given.answer2.given.1 in
-    (given-number _ _ e given.before.before.before.requires, rw (e, ← saved.save.ensures.image) copied.copy_at.ensures)
+    (given_number _ _ e given.before.before.before.requires, rw (e, ← saved.save.ensures.image) copied.copy_at.ensures)
 
 pub finish_spec : {M : Type 1} → statement M
 finish_spec =

@@ -1,12 +1,12 @@
 use mathlib.Core.Path.{refl, ap}
 use mathlib.Core.Bool.{not}
 use native.Mathlib.Omega.{arith}
-use Rattle.calls.proofs.CallFaults.{block_length, block_room, block-range}
+use Rattle.calls.proofs.CallFaults.{block_length, block_room, block_range}
 use Rattle.calls.specs.Calls.{lent, call_fault}
 use Rattle.calls.proofs.CallCounts.{call_count}
 use Rattle.image.proofs.Loaded.{accepted_image, refused_image}
 use Rattle.capi.specs.Imaged.{image_fault}
-use Rattle.capi.proofs.ImageCalls.{image_refused, image-meets}
+use Rattle.capi.proofs.ImageCalls.{image_refused, image_meets}
 use borrow.Author.Rules.{rules}
 use Rattle.capi.proofs.yoldrim_block.Statement.{statement}
 use Rattle.capi.proofs.yoldrim_block.Tie as tie
@@ -27,7 +27,7 @@ same_length c = search rules
 
 returns-3 : tie.Need-returns-3
 unfolding image_fault call_fault lent
-returns-3 c = image_refused _ _ 21 _ (block-range _ _ _ _ c.before.before.before.before.before.if1.false c.before.before.before.before.if2.false (ap not (refused_image _ _ c.before.before.load.ensures.found c.if3.true))) (λ z. omega arith) refl
+returns-3 c = image_refused _ _ 21 _ (block_range _ _ _ _ c.before.before.before.before.before.if1.false c.before.before.before.before.if2.false (ap not (refused_image _ _ c.before.before.load.ensures.found c.if3.true))) (λ z. omega arith) refl
 
 block-requires : tie.Need-block-requires
 block-requires c κs = search rules
@@ -47,7 +47,7 @@ returns-4 c =
     let called = kept.before.before.before.before in
     let loaded = called.before.before.before in
     let a = accepted_image _ _ loaded.before.before.load.ensures.found loaded.if3.false in
-    image-meets _ _ a.0 _ a.1 _ _ _ _ _ (record { sfits = kept.finish.type-inv }) kept.finish.ensures called.block.ensures
+    image_meets _ _ a.0 _ a.1 _ _ _ _ _ (record { sfits = kept.finish.type-inv }) kept.finish.ensures called.block.ensures
 
 pub yoldrim-block-spec : {M : Type 1} → statement M
 yoldrim-block-spec =

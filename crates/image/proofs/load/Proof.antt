@@ -1,4 +1,4 @@
-use Rattle.image.proofs.Loaded.{refused_length, refused_layout, refused-range, refused-bytes, loaded}
+use Rattle.image.proofs.Loaded.{refused_length, refused_layout, refused_range, refused_bytes, loaded}
 use borrow.Author.Rules.{rules}
 use Rattle.image.proofs.load.Statement.{statement}
 use Rattle.image.proofs.load.Tie as tie
@@ -30,7 +30,7 @@ refusal-requires-3 c κs = search rules
 returns-3 : tie.Need-returns-3
 returns-3 c =
     let read = c.before.before.before in
-    refused-range _ _ c.refusal3.ensures read.before.before.before.if1.false read.before.if2.false _ read.state-in.ensures _ c.before.before.state-in-range.ensures c.before.if3.true
+    refused_range _ _ c.refusal3.ensures read.before.before.before.if1.false read.before.if2.false _ read.state-in.ensures _ c.before.before.state-in-range.ensures c.before.if3.true
 
 save-requires : tie.Need-save-requires
 save-requires c κs = search rules
@@ -48,7 +48,7 @@ returns-4 : tie.Need-returns-4
 returns-4 c =
     let saved = c.before.before.before.before in
     let read = saved.before.before.before in
-    refused-bytes _ _ c.refusal4.ensures read.before.before.before.if1.false read.before.if2.false _ read.state-in.ensures _ saved.before.before.state-in-range.ensures saved.before.if3.false
+    refused_bytes _ _ c.refusal4.ensures read.before.before.before.if1.false read.before.if2.false _ read.state-in.ensures _ saved.before.before.state-in-range.ensures saved.before.if3.false
     _ saved.save.ensures.image _ c.before.before.same.ensures c.before.if4.true
 
 returns-5 : tie.Need-returns-5

@@ -5,7 +5,7 @@ use lib.ListN.{drop}
 use borrow.Author.Rules.{rules}
 use Rattle.warnings.specs.Warnings.{warning_count, by_rank}
 use Rattle.history.specs.Rules.{unit_settings}
-use Rattle.engine.proofs.HighestFound.{first_by, listed_small, passes, found-highest, none-highest}
+use Rattle.engine.proofs.HighestFound.{first_by, listed_small, passes, found_highest, none_highest}
 use Rattle.engine.proofs.deciding.highest.Statement.{statement}
 use Rattle.engine.proofs.deciding.highest.Tie as tie
 
@@ -44,7 +44,7 @@ rank-requires c κs = search rules
 
 returns : tie.Need-returns invariant-loop decreases-loop
 returns c =
-    found-highest unit_settings _ _ _ _ _ c.before.before.before.loop.i c.before.before.before.before.before.before.cycle-triggers.ensures c.before.before.before.before.before.cycle-triggers2.ensures c.before.before.before.before.crash-triggers.ensures c.before.before.before.before.before.before.before.standing-rank.ensures
+    found_highest unit_settings _ _ _ _ _ c.before.before.before.loop.i c.before.before.before.before.before.before.cycle-triggers.ensures c.before.before.before.before.before.cycle-triggers2.ensures c.before.before.before.before.crash-triggers.ensures c.before.before.before.before.before.before.before.standing-rank.ensures
     c.before.before.before.loop.invariant.1 _ (omega arith) c.before.rank.ensures c.if1.true
 
 add-i : tie.Need-overflow-add-i invariant-loop decreases-loop
@@ -58,7 +58,7 @@ loop-again c = (omega arith, c.before.before.before.loop.invariant.1 ∙ passes 
 
 returns-2 : tie.Need-returns-2 invariant-loop decreases-loop
 returns-2 c =
-    none-highest unit_settings _ _ _ _ _ c.before.loop.i c.before.before.before.before.cycle-triggers.ensures c.before.before.before.cycle-triggers2.ensures c.before.before.crash-triggers.ensures c.before.before.before.before.before.standing-rank.ensures
+    none_highest unit_settings _ _ _ _ _ c.before.loop.i c.before.before.before.before.cycle-triggers.ensures c.before.before.before.cycle-triggers2.ensures c.before.before.crash-triggers.ensures c.before.before.before.before.before.standing-rank.ensures
     c.before.loop.invariant.1 (omega arith)
 
 pub highest-spec : {M : Type 1} → statement M

@@ -1,0 +1,15 @@
+
+
+-- `Filter::at_most_8` meets its contract: each arm of the match is a clause of `at_most8`. Assumes nothing.
+use borrow.Author.Rules.{rules}
+use Rattle.filter.specs.Filter.{at_most8}
+use Rattle.filter.proofs.Filter.at_most_8.Statement.{statement}
+use Rattle.filter.proofs.Filter.at_most_8.Tie as tie
+
+pub returns-in-Empty : goal.returns-in-Empty
+unfolding at_most8
+returns-in-Empty c = simp c.in-Empty.is
+
+pub returns-in-Running : goal.returns-in-Running
+unfolding at_most8
+returns-in-Running c = simp c.in-Running.is

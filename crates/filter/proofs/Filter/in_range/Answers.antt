@@ -1,0 +1,15 @@
+
+
+-- `Filter::in_range` meets its contract: each arm of the match is a clause of `in_range`. Assumes nothing.
+use borrow.Author.Rules.{rules}
+use Rattle.filter.specs.Filter.{in_range}
+use Rattle.filter.proofs.Filter.in_range.Statement.{statement}
+use Rattle.filter.proofs.Filter.in_range.Tie as tie
+
+pub returns-in-Empty : goal.returns-in-Empty
+unfolding in_range
+returns-in-Empty c = simp c.in-Empty.is
+
+pub returns-in-Running : goal.returns-in-Running
+unfolding in_range
+returns-in-Running c = simp c.in-Running.is
