@@ -1,6 +1,7 @@
 // The engine's state, and what it looks at and gives at a tick. The rules, the history reading and the theorem that the state's
 // step finds the same are in specs/ and proofs/; the code of the step is the crate `engine`.
 #![tactic(auto)]
+
 use filter::Filter;
 use message::Message;
 use sample::Sample;

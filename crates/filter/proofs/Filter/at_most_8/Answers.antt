@@ -1,10 +1,8 @@
-
-
--- `Filter::at_most_8` meets its contract: each arm of the match is a clause of `at_most8`. Assumes nothing.
 use borrow.Author.Rules.{rules}
 use Rattle.filter.specs.Filter.{at_most8}
-use Rattle.filter.proofs.Filter.at_most_8.Statement.{statement}
-use Rattle.filter.proofs.Filter.at_most_8.Tie as tie
+use Rattle.filter.proofs.Filter.at_most_8.Goals as goal
+
+-- `Filter::at_most_8` meets its contract: each arm of the match is a clause of `at_most8`. Assumes nothing.
 
 pub returns-in-Empty : goal.returns-in-Empty
 unfolding at_most8

@@ -1,10 +1,8 @@
-
-
--- `Filter::in_range` meets its contract: each arm of the match is a clause of `in_range`. Assumes nothing.
 use borrow.Author.Rules.{rules}
 use Rattle.filter.specs.Filter.{in_range}
-use Rattle.filter.proofs.Filter.in_range.Statement.{statement}
-use Rattle.filter.proofs.Filter.in_range.Tie as tie
+use Rattle.filter.proofs.Filter.in_range.Goals as goal
+
+-- `Filter::in_range` meets its contract: each arm of the match is a clause of `in_range`. Assumes nothing.
 
 pub returns-in-Empty : goal.returns-in-Empty
 unfolding in_range
