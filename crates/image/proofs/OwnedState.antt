@@ -9,7 +9,6 @@ use mir.Val.{Val}
 use denote.Laws.{Is}
 use denote.Struct.Declared.{row}
 use denote.Struct.Laws.{owed}
-use borrow.Author.Rules.{length_unmapped}
 use Rattle.filter.specs.Filter.{is_f32}
 use Rattle.filter.proofs.OwnedFilter.{owned_f32}
 use Rattle.history.specs.declared.State.{State}
@@ -23,4 +22,4 @@ module _ (s : State) (vs : List Val) (p : Is (row state.the_type) s vs) where
   owned_filter = owned_f32 s.filter _ (owed state.the_type state-laws.the_laws s vs p).1.0
 
   pub owned_runs : length s.runs ≡ run_count
-  owned_runs = length_unmapped ℕ s.runs run_count (owed state.the_type state-laws.the_laws s vs p).1.1.1.0.1.0.1
+  owned_runs = (owed state.the_type state-laws.the_laws s vs p).1.1.1.0.1.0.1

@@ -1,5 +1,6 @@
 // The engine's state as an image of `BYTES` bytes, so that a unit can keep it over a restart.
 #![tactic(auto)]
+
 mod decoding;
 mod encoding;
 

@@ -1,5 +1,6 @@
 // The fresh state, and the ranges of refusal 21.
 #![tactic(auto)]
+
 ghost use Rattle.std.specs.Prelude.{◌≡◌};
 ghost use Rattle.history.specs.State.{fresh};
 ghost use Rattle.history.specs.Ranges.{standing_in_range, within, state_in_range};

@@ -1,6 +1,7 @@
 // The lines that the program prints: one for each message, then the closing line or the refusal.
 // A line is written from its end to its start, since division by ten gives the last digit of a number first.
 #![tactic(auto)]
+
 ghost use Rattle.std.specs.Prelude.{◌≡◌, [], ◌∷◌, ◌++◌, ◌+◌, ◌≤◌, ◌<◌, length, drop};
 ghost use Rattle.wire.specs.Outcome.{answered};
 ghost use Rattle.report.specs.Lines.{decimal, letter_of, message_line, closing_line, refusal_line, line_write, line_memory};
@@ -85,6 +86,7 @@ fn put_letter(letter: u8, out: &mut [u8], end: usize) -> usize
     end - 2
 }
 
+#[tactic(auto, unfolding(crate::specs::Lines::letter_of, crate::specs::Lines::ascii))]
 fn letter(kind: u8) -> u8
     ensures { result ∷ [] ≡ letter_of kind }
 {

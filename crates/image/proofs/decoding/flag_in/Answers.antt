@@ -1,0 +1,7 @@
+use Rattle.image.specs.Image.{flag_in}
+use borrow.Author.Rules.{rules}
+use Rattle.image.proofs.decoding.flag_in.Goals as goal
+
+pub returns : goal.returns
+unfolding flag_in
+returns c = simp c.byte_at.ensures
