@@ -1,0 +1,14 @@
+use Prim.Native.Nat.{◌-◌, ◌≤◌}
+use native.Mathlib.Omega.{arith}
+use lib.ListN.{length}
+use Rattle.wire.proofs.Places.{Changing, change_starts, change_ends}
+use Rattle.history.specs.Runs.{runs_after}
+use Rattle.history.proofs.RunsGoOn.{runs_size}
+use Rattle.engine.proofs.RunsLoop.{unchanged_fits, after_goes_on}
+use Rattle.engine.proofs.taking.runs_after.Given as goal
+
+abbrev pub invariant-loop-i : goal.invariant-loop-i
+invariant-loop-i l = (l.i ≤ length l.initial.runs) × Changing (runs_after l.facts l.initial.runs) l.initial.runs l.runs l.i
+
+abbrev pub decreases-loop-i : goal.decreases-loop-i
+decreases-loop-i l = length l.initial.runs - l.i
