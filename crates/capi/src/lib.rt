@@ -1,6 +1,7 @@
 // The functions that C calls. Each piece of memory goes as a pointer and then its length. An answer that is not negative is a count,
 // and a negative one is minus the refusal number.
 #![tactic(auto)]
+
 ghost use Rattle.std.specs.Prelude.{◌≡◌, ◌≤◌, pos, neg_ℤ};
 ghost use Rattle.wire.specs.Outcome.{answered, given_count};
 ghost use Rattle.message.specs.Message.{message_read};

@@ -1,0 +1,9 @@
+use mathlib.Core.Path.{ap, ◌∙◌}
+use Rattle.capi.specs.Imaged.{answer_number}
+use Rattle.capi.proofs.Numbers.{again}
+use Rattle.capi.proofs.Counts.{read_count}
+use borrow.Author.Rules.{rules}
+use Rattle.capi.proofs.yoldrim_block_read.Goals as goal
+
+pub number-requires : goal.number-requires
+number-requires c = read_count _ _ _ c.read-read.ensures.answer

@@ -1,0 +1,10 @@
+use Rattle.capi.proofs.FreshImages.{fresh_refused, fresh_written}
+use borrow.Author.Rules.{rules}
+use Rattle.capi.proofs.yoldrim_fresh.Goals as goal
+
+pub returns-then-memory-ne-BYTES : goal.returns-then-memory-ne-BYTES
+returns-then-memory-ne-BYTES c = fresh_refused _ c.if-memory-ne-BYTES.true
+
+pub returns : goal.returns
+returns c =
+    fresh_written _ _ _ _ c.if-memory-ne-BYTES.false c.fresh-e.ensures.state c.save-fresh.ensures.image c.copy_at.ensures
