@@ -1,6 +1,5 @@
 -- The filter of every state that a program holds has an f32's value, and its runs are as many as a state has.
 -- Assumes nothing.
-use Prim.Native.Nat.{ℕ}
 use mathlib.Core.Path.{◌≡◌}
 use mathlib.Core.List.{List}
 use lib.Dec.{T}

@@ -2,7 +2,6 @@ use mathlib.Core.Path.{refl}
 use Rattle.wire.specs.Outcome.{answered}
 use Rattle.capi.specs.Imaged.{image_kept}
 use Rattle.capi.proofs.Numbers.{given_fits, given_number, refused_number}
-use borrow.Author.Rules.{rules}
 use Rattle.capi.proofs.finish.Goals as goal
 
 pub overflow_cast-result : goal.overflow_cast-result

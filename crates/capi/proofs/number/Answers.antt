@@ -1,5 +1,4 @@
 use Rattle.capi.proofs.Numbers.{given_fits, given_number, refused_number}
-use borrow.Author.Rules.{rules}
 use Rattle.capi.proofs.number.Goals as goal
 
 pub overflow_cast-result : goal.overflow_cast-result

@@ -7,7 +7,6 @@ use Rattle.calls.proofs.CallCounts.{call_count}
 use Rattle.image.proofs.Loaded.{accepted_image, refused_image}
 use Rattle.capi.specs.Imaged.{image_fault}
 use Rattle.capi.proofs.ImageCalls.{image_refused, image_meets}
-use borrow.Author.Rules.{rules}
 use Rattle.capi.proofs.yoldrim_block.Goals as goal
 
 pub returns-then-bytes-ne512 : goal.returns-then-bytes-ne512

@@ -1,8 +1,4 @@
-use mathlib.Core.Path.{ap, ◌∙◌}
-use Rattle.capi.specs.Imaged.{answer_number}
-use Rattle.capi.proofs.Numbers.{again}
 use Rattle.capi.proofs.Counts.{read_count}
-use borrow.Author.Rules.{rules}
 use Rattle.capi.proofs.yoldrim_block_read.Goals as goal
 
 pub number-requires : goal.number-requires

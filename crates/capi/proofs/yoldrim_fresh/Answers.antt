@@ -1,5 +1,4 @@
 use Rattle.capi.proofs.FreshImages.{fresh_refused, fresh_written}
-use borrow.Author.Rules.{rules}
 use Rattle.capi.proofs.yoldrim_fresh.Goals as goal
 
 pub returns-then-memory-ne-BYTES : goal.returns-then-memory-ne-BYTES

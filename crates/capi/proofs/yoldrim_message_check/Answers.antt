@@ -1,5 +1,4 @@
 use Rattle.capi.proofs.Numbers.{check_accepted, check_refused}
-use borrow.Author.Rules.{rules}
 use Rattle.capi.proofs.yoldrim_message_check.Goals as goal
 
 pub returns-in-Accepted : goal.returns-in-Accepted

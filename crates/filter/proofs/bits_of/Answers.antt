@@ -1,5 +1,4 @@
 use Rattle.filter.proofs.FloatBits.{nan_bits, no_nan}
-use borrow.Author.Rules.{rules}
 use Rattle.filter.proofs.bits_of.Goals as goal
 
 pub float_to_bits-result : goal.float_to_bits-result

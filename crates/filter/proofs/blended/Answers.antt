@@ -1,7 +1,6 @@
 use mathlib.Core.Path.{refl, sym, ◌∙◌}
 use Rattle.filter.specs.Filter.{blend}
 use Rattle.filter.proofs.FloatBits.{rests}
-use borrow.Author.Rules.{rules}
 use Rattle.filter.proofs.blended.Goals as goal
 
 pub returns-then-bits_of-eq-REST : goal.returns-then-bits_of-eq-REST

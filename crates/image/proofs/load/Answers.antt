@@ -1,7 +1,6 @@
 use mathlib.Core.Path.{ap}
 use mathlib.Core.Bool.{not}
 use Rattle.image.proofs.Loaded.{refused_length, refused_layout, refused_range, refused_bytes, loaded}
-use borrow.Author.Rules.{rules}
 use Rattle.image.proofs.load.Goals as goal
 
 pub returns-then-image-ne-BYTES : goal.returns-then-image-ne-BYTES

@@ -1,9 +1,7 @@
 use mathlib.Core.Path.{refl}
-use native.Mathlib.Omega.{arith}
 use Rattle.image.proofs.LoadOfSave.{saved_promise}
 use Rattle.image.proofs.OwnedState.{owned_filter, owned_runs}
 use Rattle.image.proofs.SavedParts.{parts_saved}
-use borrow.Author.Rules.{rules}
 use Rattle.image.proofs.save.Goals as goal
 
 pub returns : goal.returns

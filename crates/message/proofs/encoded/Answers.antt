@@ -10,7 +10,6 @@ use Rattle.warnings.specs.Warnings.{row_of, direction_of}
 use Rattle.warnings.specs.declared.Row.{Row}
 use Rattle.message.specs.Message.{encode}
 use Rattle.message.specs.declared.Message.{Message}
-use borrow.Author.Rules.{rules}
 use Rattle.message.proofs.encoded.Goals as goal
 
 -- the bytes, each part from what a call gave

@@ -9,7 +9,6 @@ use Rattle.wire.specs.Words.{word}
 use Rattle.wire.proofs.TwosComplement.{signed_again}
 use Rattle.message.specs.Message.{message_of}
 use Rattle.message.specs.declared.Message.{Message}
-use borrow.Author.Rules.{rules}
 use Rattle.message.proofs.fields.Goals as goal
 
 -- the fields, each from what a call gave

@@ -1,6 +1,5 @@
 use Rattle.wire.specs.Tests.{all_hold}
 use Rattle.message.specs.Message.{derived_fit}
-use borrow.Author.Rules.{rules}
 use Rattle.message.proofs.is_derived.Goals as goal
 
 pub returns : goal.returns

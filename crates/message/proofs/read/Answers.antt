@@ -3,7 +3,6 @@ use borrow.Author.Tests.{eq-eqb, ne_eqb}
 use Rattle.wire.specs.Outcome.{first_fault, outcome}
 use Rattle.message.specs.Message.{message_read, reading}
 use Rattle.message.proofs.RoundTrip.{found_promise}
-use borrow.Author.Rules.{rules}
 use Rattle.message.proofs.read.Goals as goal
 
 pub returns-then-bytes-ne32 : goal.returns-then-bytes-ne32

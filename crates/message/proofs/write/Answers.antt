@@ -11,7 +11,6 @@ use Rattle.wire.specs.Memory.{memory, overlay}
 use Rattle.wire.proofs.Splice.{splice-overlay}
 use Rattle.message.specs.Message.{write_fault, encode}
 use Rattle.message.proofs.RoundTrip.{written_promise}
-use borrow.Author.Rules.{rules}
 use Rattle.message.proofs.write.Goals as goal
 
 -- the 32 bytes, copied to the start

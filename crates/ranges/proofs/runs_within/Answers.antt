@@ -1,10 +1,4 @@
-use Prim.Native.Nat.{◌-◌, ◌≤◌}
-use mathlib.Core.Path.{◌≡◌, refl}
-use mathlib.Core.Bool.{◌&&◌}
 use native.Mathlib.Omega.{arith}
-use borrow.Author.Rules.{rules}
-use lib.ListN.{length, drop}
-use Rattle.history.specs.Ranges.{within}
 use Rattle.ranges.proofs.EachWithin.{within_on, within_end}
 use Rattle.ranges.proofs.runs_within.Goals as goal
 

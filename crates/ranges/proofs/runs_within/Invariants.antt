@@ -1,10 +1,8 @@
 use Prim.Native.Nat.{◌-◌, ◌≤◌}
-use mathlib.Core.Path.{◌≡◌, refl}
+use mathlib.Core.Path.{◌≡◌}
 use mathlib.Core.Bool.{◌&&◌}
-use native.Mathlib.Omega.{arith}
 use lib.ListN.{length, drop}
 use Rattle.history.specs.Ranges.{within}
-use Rattle.ranges.proofs.EachWithin.{within_on, within_end}
 use Rattle.ranges.proofs.runs_within.Given as goal
 
 abbrev pub invariant-loop-i : goal.invariant-loop-i

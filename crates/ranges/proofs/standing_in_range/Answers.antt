@@ -1,5 +1,4 @@
 use Rattle.history.specs.Ranges.{standing_in_range}
-use borrow.Author.Rules.{rules}
 use Rattle.ranges.proofs.standing_in_range.Goals as goal
 
 pub returns-in-Nothing : goal.returns-in-Nothing

@@ -1,8 +1,6 @@
 use mathlib.Core.Path.{sym, ◌∙◌}
 use mathlib.Core.Bool.{and_assoc, and-false}
-use borrow.Author.Tests.{not-true, not-false}
 use Rattle.history.specs.Ranges.{within, state_in_range}
-use borrow.Author.Rules.{rules}
 use Rattle.ranges.proofs.EachWithin.{range_tested}
 use Rattle.ranges.proofs.state_in_range.Goals as goal
 

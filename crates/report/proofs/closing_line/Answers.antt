@@ -2,7 +2,6 @@ use Rattle.report.proofs.LineLengths.{closing_size}
 use native.Mathlib.Omega.{arith}
 use Rattle.report.specs.Lines.{ascii, closing_line}
 use Rattle.report.proofs.LineWritten.{line_refused, line_written, closing_written}
-use borrow.Author.Rules.{rules}
 use Rattle.report.proofs.closing_line.Goals as goal
 
 pub returns-then-out-length : goal.returns-then-out-length

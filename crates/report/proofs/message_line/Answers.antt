@@ -1,8 +1,6 @@
 use Rattle.report.proofs.LineLengths.{message_size}
-use native.Mathlib.Omega.{arith}
 use Rattle.report.specs.Lines.{message_line}
 use Rattle.report.proofs.LineWritten.{line_refused, line_written, message_written}
-use borrow.Author.Rules.{rules}
 use Rattle.report.proofs.message_line.Goals as goal
 
 pub returns-then-out-size : goal.returns-then-out-size

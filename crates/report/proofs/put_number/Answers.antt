@@ -1,9 +1,5 @@
-use lib.ListN.{length, length-set}
-use mathlib.Core.Path.{◌≡◌, ◌∙◌}
 use native.Mathlib.Omega.{arith}
-use Prim.Native.Nat.{◌-◌}
-use borrow.Author.Rules.{rules}
-use Rattle.report.proofs.Placed.{Placed, placed_none, placed_digit, placed_all, number_placed}
+use Rattle.report.proofs.Placed.{placed_none, placed_digit, placed_all, number_placed}
 use Rattle.report.proofs.put_number.Goals as goal
 
 pub loop-rest-init : goal.loop-rest-init

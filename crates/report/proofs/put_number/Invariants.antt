@@ -1,8 +1,4 @@
-use lib.ListN.{length, length-set}
-use mathlib.Core.Path.{◌≡◌, ◌∙◌}
-use native.Mathlib.Omega.{arith}
-use Prim.Native.Nat.{◌-◌}
-use Rattle.report.proofs.Placed.{Placed, placed_none, placed_digit, placed_all, number_placed}
+use Rattle.report.proofs.Placed.{Placed}
 use Rattle.report.proofs.put_number.Given as goal
 
 abbrev pub invariant-loop-rest : goal.invariant-loop-rest

@@ -1,7 +1,6 @@
 use Rattle.report.proofs.LineLengths.{refusal_size}
 use Rattle.report.specs.Lines.{ascii, refusal_line}
 use Rattle.report.proofs.LineWritten.{line_refused, line_written, refusal_written}
-use borrow.Author.Rules.{rules}
 use Rattle.report.proofs.refusal_line.Goals as goal
 
 pub returns-then-out-count : goal.returns-then-out-count

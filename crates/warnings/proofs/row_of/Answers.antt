@@ -1,6 +1,5 @@
 use native.Mathlib.Omega.{arith}
 use Rattle.warnings.proofs.Table.{rows, row_of_warning, no_row_lem}
-use borrow.Author.Rules.{rules}
 use Rattle.warnings.proofs.row_of.Goals as goal
 
 pub returns-in-1-to-3 : goal.returns-in-1-to-3

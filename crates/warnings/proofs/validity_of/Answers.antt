@@ -1,5 +1,4 @@
 use Rattle.warnings.specs.Warnings.{validity_of}
-use borrow.Author.Rules.{rules}
 use Rattle.warnings.proofs.validity_of.Goals as goal
 
 pub returns-then-ignition : goal.returns-then-ignition

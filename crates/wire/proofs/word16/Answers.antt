@@ -1,6 +1,5 @@
 use mathlib.Core.Path.{◌∙◌}
 use Rattle.wire.proofs.Words.{word16_made}
-use borrow.Author.Rules.{rules}
 use Rattle.wire.proofs.word16.Goals as goal
 
 pub returns : goal.returns

@@ -1,6 +1,5 @@
 use mathlib.Core.Path.{◌∙◌}
 use Rattle.wire.proofs.Words.{word32_made}
-use borrow.Author.Rules.{rules}
 use Rattle.wire.proofs.word32.Goals as goal
 
 pub returns : goal.returns

@@ -1,5 +1,4 @@
 use Rattle.history.specs.Rules.{cancel_due}
-use borrow.Author.Rules.{rules}
 use Rattle.engine.proofs.deciding.cancel_due.Goals as goal
 
 pub returns : goal.returns

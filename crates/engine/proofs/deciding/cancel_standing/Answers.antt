@@ -1,5 +1,4 @@
 use Rattle.history.specs.Rules.{cancel_standing}
-use borrow.Author.Rules.{rules}
 use Rattle.engine.proofs.deciding.cancel_standing.Goals as goal
 
 pub returns-in-Nothing : goal.returns-in-Nothing

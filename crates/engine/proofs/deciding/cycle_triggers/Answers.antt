@@ -1,7 +1,6 @@
 use borrow.Author.Tests.{lt-ltb, le-ltb}
 use native.Mathlib.Omega.{arith}
 use Rattle.history.specs.Rules.{cycle_triggers}
-use borrow.Author.Rules.{rules}
 use Rattle.engine.proofs.deciding.cycle_triggers.Goals as goal
 
 pub returns-then-c-lt1 : goal.returns-then-c-lt1

@@ -1,6 +1,5 @@
 use borrow.Author.Tests.{eq-eqb, ne_eqb}
 use Rattle.history.specs.Rules.{decide}
-use borrow.Author.Rules.{rules}
 use Rattle.engine.proofs.deciding.decide.Goals as goal
 
 pub returns-then-warning-eq0 : goal.returns-then-warning-eq0

@@ -1,7 +1,6 @@
 use native.Mathlib.Omega.{arith}
 use Rattle.history.specs.Rules.{driven_off}
 use Rattle.engine.proofs.Decided.{delay_small}
-use borrow.Author.Rules.{rules}
 use Rattle.engine.proofs.deciding.driven_off.Goals as goal
 
 pub overflow_add-result : goal.overflow_add-result

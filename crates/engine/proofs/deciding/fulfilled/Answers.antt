@@ -1,6 +1,5 @@
 use native.Mathlib.Omega.{arith}
 use Rattle.history.specs.Rules.{fulfilled}
-use borrow.Author.Rules.{rules}
 use Rattle.engine.proofs.deciding.fulfilled.Goals as goal
 
 pub returns : goal.returns

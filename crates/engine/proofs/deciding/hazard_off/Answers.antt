@@ -1,5 +1,4 @@
 use Rattle.history.specs.Rules.{hazard_off}
-use borrow.Author.Rules.{rules}
 use Rattle.engine.proofs.deciding.hazard_off.Goals as goal
 
 pub returns : goal.returns

@@ -1,11 +1,7 @@
-use mathlib.Core.Path.{◌≡◌, ◌∙◌}
-use Prim.Native.Nat.{◌-◌, ◌≤◌}
+use mathlib.Core.Path.{◌∙◌}
 use native.Mathlib.Omega.{arith}
-use lib.ListN.{drop}
-use borrow.Author.Rules.{rules}
-use Rattle.warnings.specs.Warnings.{warning_count, by_rank}
 use Rattle.history.specs.Rules.{unit_settings}
-use Rattle.engine.proofs.HighestFound.{first_by, listed_small, passes, found_highest, none_highest}
+use Rattle.engine.proofs.HighestFound.{passes, found_highest, none_highest}
 use Rattle.engine.proofs.deciding.highest.Goals as goal
 
 pub returns-then-triggered-at : goal.returns-then-triggered-at

@@ -1,10 +1,8 @@
-use mathlib.Core.Path.{◌≡◌, ◌∙◌}
+use mathlib.Core.Path.{◌≡◌}
 use Prim.Native.Nat.{◌-◌, ◌≤◌}
-use native.Mathlib.Omega.{arith}
 use lib.ListN.{drop}
 use Rattle.warnings.specs.Warnings.{warning_count, by_rank}
-use Rattle.history.specs.Rules.{unit_settings}
-use Rattle.engine.proofs.HighestFound.{first_by, listed_small, passes, found_highest, none_highest}
+use Rattle.engine.proofs.HighestFound.{first_by}
 use Rattle.engine.proofs.deciding.highest.Given as goal
 
 abbrev pub invariant-loop-i : goal.invariant-loop-i

@@ -1,6 +1,5 @@
 use mathlib.Core.Path.{sym, ◌∙◌}
 use Rattle.history.specs.Rules.{keep}
-use borrow.Author.Rules.{rules}
 use Rattle.engine.proofs.deciding.keep.Goals as goal
 
 pub returns-in_default : goal.returns-in_default

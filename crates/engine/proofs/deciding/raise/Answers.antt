@@ -1,5 +1,4 @@
 use Rattle.history.specs.Rules.{raise}
-use borrow.Author.Rules.{rules}
 use Rattle.engine.proofs.deciding.raise.Goals as goal
 
 pub returns : goal.returns

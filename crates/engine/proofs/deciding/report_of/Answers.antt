@@ -1,5 +1,4 @@
 use Rattle.history.specs.Rules.{report_of}
-use borrow.Author.Rules.{rules}
 use Rattle.engine.proofs.deciding.report_of.Goals as goal
 
 pub returns : goal.returns

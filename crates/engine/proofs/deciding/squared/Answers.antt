@@ -1,7 +1,4 @@
-use mir.Syntax.{w32, w64}
-use mir.Facts.{sfits_widen}
-use Rattle.wire.proofs.TwosComplement.{signed_again}
-use Rattle.engine.proofs.Squares.{signed64_again, difference, difference_fits, square_fits, square_again}
+use Rattle.engine.proofs.Squares.{signed64_again, difference, difference_fits, square_again}
 use Rattle.engine.proofs.deciding.squared.Goals as goal
 
 pub returns : goal.returns

@@ -1,7 +1,6 @@
 use native.Mathlib.Omega.{arith}
 use Rattle.history.specs.Rules.{update_due}
 use Rattle.engine.proofs.Decided.{period_small}
-use borrow.Author.Rules.{rules}
 use Rattle.engine.proofs.deciding.update_due.Goals as goal
 
 pub overflow_add-result : goal.overflow_add-result

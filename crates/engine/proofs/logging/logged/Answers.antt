@@ -1,5 +1,4 @@
 use Rattle.history.specs.State.{logged}
-use borrow.Author.Rules.{rules}
 use Rattle.engine.proofs.logging.logged.Goals as goal
 
 pub returns : goal.returns

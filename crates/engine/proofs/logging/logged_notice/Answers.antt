@@ -1,5 +1,4 @@
 use Rattle.history.specs.State.{logged_notice}
-use borrow.Author.Rules.{rules}
 use Rattle.engine.proofs.logging.logged_notice.Goals as goal
 
 pub returns-in-Nothing : goal.returns-in-Nothing

@@ -2,7 +2,6 @@ use native.Mathlib.Omega.{arith}
 use Rattle.history.specs.State.{with_sample, step}
 use Rattle.engine.proofs.StepFits.{view_fits, events_more}
 use Rattle.history.specs.Ranges.{events_place}
-use borrow.Author.Rules.{rules}
 use Rattle.engine.proofs.stepping.stepped.Goals as goal
 
 pub decide-decision-requires : goal.decide-decision-requires

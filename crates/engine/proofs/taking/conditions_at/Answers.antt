@@ -1,5 +1,4 @@
 use Rattle.history.specs.State.{conditions_at}
-use borrow.Author.Rules.{rules}
 use Rattle.engine.proofs.taking.conditions_at.Goals as goal
 
 pub returns : goal.returns

@@ -1,5 +1,4 @@
 use Rattle.history.specs.State.{cycle_after}
-use borrow.Author.Rules.{rules}
 use Rattle.engine.proofs.taking.cycle_after.Goals as goal
 
 pub returns : goal.returns

@@ -1,5 +1,4 @@
 use Rattle.history.specs.History.{precondition}
-use borrow.Author.Rules.{rules}
 use Rattle.engine.proofs.taking.goes_on.Goals as goal
 
 pub returns : goal.returns

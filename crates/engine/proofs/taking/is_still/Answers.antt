@@ -1,5 +1,4 @@
 use Rattle.history.specs.History.{is_still}
-use borrow.Author.Rules.{rules}
 use Rattle.engine.proofs.taking.is_still.Goals as goal
 
 pub returns : goal.returns

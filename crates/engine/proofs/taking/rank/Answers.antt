@@ -1,5 +1,4 @@
 use Rattle.history.specs.Rules.{rank}
-use borrow.Author.Rules.{rules}
 use Rattle.engine.proofs.taking.rank.Goals as goal
 
 pub returns : goal.returns

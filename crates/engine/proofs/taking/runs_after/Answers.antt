@@ -1,9 +1,5 @@
-use Prim.Native.Nat.{◌-◌, ◌≤◌}
 use native.Mathlib.Omega.{arith}
-use lib.ListN.{length}
-use borrow.Author.Rules.{rules}
-use Rattle.wire.proofs.Places.{Changing, change_starts, change_ends}
-use Rattle.history.specs.Runs.{runs_after}
+use Rattle.wire.proofs.Places.{change_ends}
 use Rattle.history.proofs.RunsGoOn.{runs_size}
 use Rattle.engine.proofs.RunsLoop.{unchanged_fits, after_goes_on}
 use Rattle.engine.proofs.taking.runs_after.Goals as goal

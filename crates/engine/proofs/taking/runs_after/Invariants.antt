@@ -1,10 +1,7 @@
 use Prim.Native.Nat.{◌-◌, ◌≤◌}
-use native.Mathlib.Omega.{arith}
 use lib.ListN.{length}
-use Rattle.wire.proofs.Places.{Changing, change_starts, change_ends}
+use Rattle.wire.proofs.Places.{Changing}
 use Rattle.history.specs.Runs.{runs_after}
-use Rattle.history.proofs.RunsGoOn.{runs_size}
-use Rattle.engine.proofs.RunsLoop.{unchanged_fits, after_goes_on}
 use Rattle.engine.proofs.taking.runs_after.Given as goal
 
 abbrev pub invariant-loop-i : goal.invariant-loop-i

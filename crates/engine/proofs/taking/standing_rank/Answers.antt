@@ -1,5 +1,4 @@
 use Rattle.history.specs.Rules.{standing_rank}
-use borrow.Author.Rules.{rules}
 use Rattle.engine.proofs.taking.standing_rank.Goals as goal
 
 pub returns-in-Nothing : goal.returns-in-Nothing

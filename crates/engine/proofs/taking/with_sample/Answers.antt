@@ -1,7 +1,6 @@
 use native.Mathlib.Omega.{arith}
 use Rattle.engine.proofs.StateTaken.{runs_fit, sample_made}
 use Rattle.history.specs.Ranges.{stopped_place, broken_down_place}
-use borrow.Author.Rules.{rules}
 use Rattle.engine.proofs.taking.with_sample.Goals as goal
 
 pub runs_after-runs-requires : goal.runs_after-runs-requires

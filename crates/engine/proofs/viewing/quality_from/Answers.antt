@@ -1,7 +1,5 @@
-use native.Mathlib.Omega.{arith}
 use borrow.Author.Tests.{lt-ltb, le-ltb}
 use Rattle.history.specs.State.{quality_from}
-use borrow.Author.Rules.{rules}
 use Rattle.engine.proofs.viewing.quality_from.Goals as goal
 
 pub returns-then-j-r : goal.returns-then-j-r

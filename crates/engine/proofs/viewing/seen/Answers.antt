@@ -1,7 +1,6 @@
 use native.Mathlib.Omega.{arith}
 use Rattle.engine.proofs.StateSeen.{runs_still_fit, seen_made}
 use Rattle.history.specs.Ranges.{counted_place, last_cancel_place}
-use borrow.Author.Rules.{rules}
 use Rattle.engine.proofs.viewing.seen.Goals as goal
 
 pub quality_from-requires : goal.quality_from-requires

@@ -1,4 +1,3 @@
-use borrow.Author.Rules.{rules}
 use Rattle.filter.specs.Filter.{at_most8}
 use Rattle.filter.proofs.Filter.at_most_8.Goals as goal
 

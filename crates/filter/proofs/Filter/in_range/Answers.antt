@@ -1,4 +1,3 @@
-use borrow.Author.Rules.{rules}
 use Rattle.filter.specs.Filter.{in_range}
 use Rattle.filter.proofs.Filter.in_range.Goals as goal
 

@@ -4,7 +4,6 @@ use Rattle.filter.specs.declared.Filter.TheVariants.{Empty, Running}
 use Rattle.filter.proofs.NextLaws.{next_missing, next_reading}
 use Rattle.filter.proofs.Between.{moved}
 use Rattle.filter.proofs.OwnedFilter.{owned_f32}
-use borrow.Author.Rules.{rules}
 use Rattle.filter.proofs.Filter.next.Goals as goal
 
 pub returns-then-reading-eq-NO_READING : goal.returns-then-reading-eq-NO_READING

@@ -1,5 +1,4 @@
 use Rattle.image.specs.Image.{flag_in}
-use borrow.Author.Rules.{rules}
 use Rattle.image.proofs.decoding.flag_in.Goals as goal
 
 pub returns : goal.returns

@@ -1,5 +1,4 @@
 use Rattle.image.specs.Image.{log_in}
-use borrow.Author.Rules.{rules}
 use Rattle.image.proofs.decoding.log_in.Goals as goal
 
 pub returns : goal.returns

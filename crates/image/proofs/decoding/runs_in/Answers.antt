@@ -1,10 +1,6 @@
-use Prim.Native.Nat.{◌-◌, ◌≤◌}
 use mathlib.Core.Path.{sym, ◌∙◌}
 use native.Mathlib.Omega.{arith}
-use borrow.Author.Rules.{rules}
-use Rattle.wire.proofs.Places.{Changing, change_starts, change_goes_on, change_ends}
-use Rattle.history.specs.Runs.{run_count}
-use Rattle.image.specs.Image.{runs_in}
+use Rattle.wire.proofs.Places.{change_goes_on, change_ends}
 use Rattle.image.proofs.NumbersIn.{runs_in_length, run_in_at}
 use Rattle.image.proofs.decoding.runs_in.Goals as goal
 

@@ -1,10 +1,7 @@
 use Prim.Native.Nat.{◌-◌, ◌≤◌}
-use mathlib.Core.Path.{sym, ◌∙◌}
-use native.Mathlib.Omega.{arith}
-use Rattle.wire.proofs.Places.{Changing, change_starts, change_goes_on, change_ends}
+use Rattle.wire.proofs.Places.{Changing}
 use Rattle.history.specs.Runs.{run_count}
 use Rattle.image.specs.Image.{runs_in}
-use Rattle.image.proofs.NumbersIn.{runs_in_length, run_in_at}
 use Rattle.image.proofs.decoding.runs_in.Given as goal
 
 abbrev pub invariant-loop-i : goal.invariant-loop-i

@@ -1,10 +1,4 @@
-use Prim.Native.Nat.{◌-◌, ◌≤◌}
-use mathlib.Core.Path.{◌≡◌, refl}
-use mathlib.Core.Bool.{◌&&◌}
 use native.Mathlib.Omega.{arith}
-use borrow.Author.Rules.{rules}
-use lib.ListN.{length, drop}
-use Rattle.image.specs.Image.{same_bytes}
 use Rattle.image.proofs.SameBytes as S
 use Rattle.image.proofs.decoding.same.Goals as goal
 

@@ -1,10 +1,8 @@
 use Prim.Native.Nat.{◌-◌, ◌≤◌}
-use mathlib.Core.Path.{◌≡◌, refl}
+use mathlib.Core.Path.{◌≡◌}
 use mathlib.Core.Bool.{◌&&◌}
-use native.Mathlib.Omega.{arith}
 use lib.ListN.{length, drop}
 use Rattle.image.specs.Image.{same_bytes}
-use Rattle.image.proofs.SameBytes as S
 use Rattle.image.proofs.decoding.same.Given as goal
 
 abbrev pub invariant-loop-i : goal.invariant-loop-i

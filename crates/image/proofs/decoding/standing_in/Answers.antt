@@ -1,7 +1,6 @@
 use mathlib.Core.Path.{ap}
 use mathlib.Core.Bool.{not}
 use Rattle.image.proofs.StandingIn.{standing_none, standing_read, standing_refused}
-use borrow.Author.Rules.{rules}
 use Rattle.image.proofs.decoding.standing_in.Goals as goal
 
 pub returns-then-not-sent : goal.returns-then-not-sent

@@ -1,5 +1,4 @@
 use Rattle.image.specs.Image.{state_in}
-use borrow.Author.Rules.{rules}
 use Rattle.image.proofs.decoding.state_in.Goals as goal
 
 pub returns : goal.returns

@@ -1,5 +1,4 @@
 use Rattle.image.specs.Image.{filter_bits}
-use borrow.Author.Rules.{rules}
 use Rattle.image.proofs.encoding.filter_bits.Goals as goal
 
 pub returns-in-Empty : goal.returns-in-Empty

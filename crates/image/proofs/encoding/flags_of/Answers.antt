@@ -1,5 +1,4 @@
 use Rattle.image.specs.Image.{flags_of}
-use borrow.Author.Rules.{rules}
 use Rattle.image.proofs.encoding.flags_of.Goals as goal
 
 pub returns : goal.returns

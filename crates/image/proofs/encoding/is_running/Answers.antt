@@ -1,5 +1,4 @@
 use Rattle.image.specs.Image.{is_running}
-use borrow.Author.Rules.{rules}
 use Rattle.image.proofs.encoding.is_running.Goals as goal
 
 pub returns-in-Empty : goal.returns-in-Empty

@@ -1,5 +1,4 @@
 use Rattle.image.specs.Image.{is_sent}
-use borrow.Author.Rules.{rules}
 use Rattle.image.proofs.encoding.is_sent.Goals as goal
 
 pub returns-in-Nothing : goal.returns-in-Nothing

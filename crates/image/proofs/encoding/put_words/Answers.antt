@@ -1,11 +1,6 @@
-use Prim.Native.Nat.{◌-◌, ◌≤◌}
-use mathlib.Core.Path.{◌≡◌}
 use native.Mathlib.Omega.{arith}
 use borrow.Author.Rules.{rules}
-use lib.ListN.{length, take}
-use Rattle.wire.specs.Memory.{splice}
-use Rattle.image.specs.Image.{word_bytes}
-use Rattle.image.proofs.WordBytes.{words_none, words_more, words_all}
+use Rattle.image.proofs.WordBytes.{words_none, words_more}
 use Rattle.image.proofs.encoding.put_words.Goals as goal
 
 pub loop-i-init : goal.loop-i-init

@@ -1,10 +1,8 @@
 use Prim.Native.Nat.{◌-◌, ◌≤◌}
 use mathlib.Core.Path.{◌≡◌}
-use native.Mathlib.Omega.{arith}
 use lib.ListN.{length, take}
 use Rattle.wire.specs.Memory.{splice}
 use Rattle.image.specs.Image.{word_bytes}
-use Rattle.image.proofs.WordBytes.{words_none, words_more, words_all}
 use Rattle.image.proofs.encoding.put_words.Given as goal
 
 abbrev pub invariant-loop-i : goal.invariant-loop-i

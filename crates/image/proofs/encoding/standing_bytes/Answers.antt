@@ -1,5 +1,4 @@
 use Rattle.image.specs.Image.{standing_bytes}
-use borrow.Author.Rules.{rules}
 use Rattle.image.proofs.encoding.standing_bytes.Goals as goal
 
 pub returns-in-Nothing : goal.returns-in-Nothing

@@ -1,7 +1,6 @@
 use Rattle.wire.specs.Tests.{all_hold}
 use Rattle.warnings.specs.Warnings.{validity_of}
 use Rattle.message.specs.Message.{field_tests, admits}
-use borrow.Author.Rules.{rules}
 use Rattle.message.proofs.Message.is_admitted.Goals as goal
 
 pub returns : goal.returns
