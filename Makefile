@@ -10,16 +10,18 @@ SOURCES = crates.txt $(shell find crates -name '*.rt' -o -name '*.antt')
 run: target/bin/yoldrim
 	@target/bin/yoldrim < $(RECORDING)
 
-# rt check leaves a crate that has not changed as it is. What it shows goes to standard error, so that the messages stand alone.
+# rt proves what has changed and builds the program, which it then runs, here on no input. What it shows goes to standard error, so that
+# the messages stand alone.
 target/bin/yoldrim: $(SOURCES)
-	@bash tests/progress.sh target/check.log rt check yoldrim >&2
-	@touch $@
+	@bash tests/progress.sh target/program.log tests/in_crate.sh yoldrim run >&2
+	@mkdir -p target/bin
+	@cp crates/yoldrim/out/yoldrim $@
 
 lib: target/libyoldrim.a
 
 target/libyoldrim.a: $(SOURCES) include/yoldrim.h
-	@bash tests/progress.sh target/lib.log rt staticlib capi
-	@cp target/staticlib/libcapi.a $@
+	@bash tests/progress.sh target/lib.log tests/in_crate.sh capi lib
+	@cp crates/capi/out/libcapi.a $@
 	@cp include/yoldrim.h target/
 	@echo "made $@, with yoldrim.h beside it"
 

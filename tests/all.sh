@@ -9,6 +9,12 @@ log=$(mktemp)
 trap 'rm -f "$log"' EXIT
 
 bash tests/progress.sh "$log" rt ci
+# rt ci passes over an edit that cannot be applied or read, and only counts it.
+if grep -E '^rt: ok.*, [1-9][0-9]* bad' "$log"; then
+    echo "a must-fail edit counts for nothing"
+    exit 1
+fi
+make --no-print-directory target/bin/yoldrim
 bash tests/recordings.sh
 
 # A tool that is missing is named; under CI it is an error.

@@ -23,7 +23,7 @@ FUNCTIONS = {"append", "take", "drop", "replicate", "length", "nat_abs", "splice
 FUNCTIONS |= {"all_zero", "samples_in", "block_with", "unused_in", "first_samples", "bytes", "bytes_at", "bytes_of", "little", "word"}
 NAME = re.compile(r"[^\W\d_][\w'\u2080-\u2089-]*")
 DEFINED = re.compile(r"^(?:abbrev |unfoldable )?(?:pub )?(?:(?:record|data|ruleset) )?([^\s(){}:]+)(?: [({].*?)?\s+: ", re.M)
-FIELD = re.compile(r"^(?:  |  pub | +pub )([^\s(){}:]+) : ", re.M)
+INNER = re.compile(r"^ +(?:abbrev |unfoldable )?(?:pub )?([^\s(){}:]+)(?: [({].*?)?\s+: ", re.M)
 
 
 def files(*patterns):
@@ -41,7 +41,7 @@ def definitions():
         if f.endswith(("/Proof.antt", "/Answers.antt", "/Invariants.antt")):
             continue
         text = open(f, encoding="utf-8").read()
-        found |= {m.group(1) for m in list(DEFINED.finditer(text)) + list(FIELD.finditer(text))}
+        found |= {m.group(1) for m in list(DEFINED.finditer(text)) + list(INNER.finditer(text))}
     return found
 
 

@@ -4,4 +4,5 @@ pub mod OrderOfChecksHolds
 pub mod Records
 pub mod CallsMeet
 pub mod CallCounts
+pub mod MadeCall
 pub mod DemandHolds

@@ -69,9 +69,9 @@ module _ (image : List ℕ) (c : Call) where
 
   module _ (i : is_image image ≡ true) where
     -- on an image, the first failing check is the engine's
-    fault-same : state_fault (state_in image) c ≡ image_fault image c
+    fault_same : state_fault (state_in image) c ≡ image_fault image c
     unfolding state_fault image_fault
-    fault-same = rw (i, (is_image_lem image i).range)
+    fault_same = rw (i, (is_image_lem image i).range)
 
     -- the promise, from the engine's and from what `finish` does, with the number as `finish` gave it
     pub image_meets : (s : State) → state_in image ≡ s → (next : State) (r : Answer) (z : ℤ) (imageLast outLast : List ℕ) → SFits w32 z
@@ -79,7 +79,7 @@ module _ (image : List ℕ) (c : Call) where
         → Meets s c next r outLast
         → ImageMeets image c (to_z w32 (of_z w32 z)) imageLast outLast
     image_meets s same next r z imageLast outLast f p m =
-        let n : state_fault s c ≡ image_fault image c = rw (← same) fault-same in
+        let n : state_fault s c ≡ image_fault image c = rw (← same) fault_same in
         let a : answered r ≡ call_answer (image_fault image c) (samples_added c) (state_in image) = m.answer ∙ rw (n, same) in
         let t : next ≡ call_state (image_fault image c) (samples_added c) (state_in image) = m.state ∙ rw (n, same) in
         record {

@@ -51,12 +51,12 @@ module _ (S : Settings) (v : View) (first second crash : Bool) (below i : ℕ)
 
   module _ (passed : first_by table below by_rank ≡ first_by table below (drop i by_rank)) where
     -- what is left to search decides
-    left-highest : first_by table below (drop i by_rank) ≡ highest S v
-    left-highest = sym passed ∙ rw (cycle1, cycle2, crashed, standing) (first_highest S v)
+    left_highest : first_by table below (drop i by_rank) ≡ highest S v
+    left_highest = sym passed ∙ rw (cycle1, cycle2, crashed, standing) (first_highest S v)
 
     pub found_highest : (r : ℕ) → i < warning_count → r ≡ rank (get_or by_rank i 0) → get_or table (get_or by_rank i 0) false && ltb below r ≡ true → get_or by_rank i 0 ≡ highest S v
-    found_highest r within ranked o = sym (finds table below i r within ranked o) ∙ left-highest
+    found_highest r within ranked o = sym (finds table below i r within ranked o) ∙ left_highest
 
     pub none_highest : i ≡ warning_count → 0 ≡ highest S v
     unfolding first_by
-    none_highest e = rw e at left-highest
+    none_highest e = rw e at left_highest

@@ -123,12 +123,12 @@ mul_fourth f s (fin t m e) D h =
     let n = m * up e in
     let four : 0 < 4 = zero-lt-suc 3 in
     let p : n * 1 * (l * 4) ≡ D * (down e * 4) = rw (mul-one, ← mul_assoc n l 4, h.1) (mul_assoc D (down e) 4) in
-    rw (unlike-false t, h.0)
+    rw (unlike_false t, h.0)
     (round_same f s (n * 1) (down e * 4) D (l * 4) (mul-pos (down_pos e) four) (mul-pos (pow_pos (low f)) four) p)
   where
-    unlike-false : (t : Bool) → unlike t false ≡ t
-    unlike-false true = refl
-    unlike-false false = refl
+    unlike_false : (t : Bool) → unlike t false ≡ t
+    unlike_false true = refl
+    unlike_false false = refl
 
 -- ---- F + Q, for such an F
 pub add_up : (f : Format) (s : Bool) (y q : Float) (A Q : ℕ) → InUnits f s y A → (T s → A ≡ 0) → InUnits f false q Q

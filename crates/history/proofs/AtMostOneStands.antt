@@ -72,9 +72,9 @@ module _ (x : Sample) (past : Past) where
     ends m s = elim s.0 [ inl b ↦ no_new refl m b | inr r ↦ stood (cancel_of v.tick p ∷ []) (rw own) m r s.1 ]
 
     -- no rule
-    silent-stays : After []
+    silent_stays : After []
     unfolding standing_after ends_at among messages
-    silent-stays = rw e (record {
+    silent_stays = rw e (record {
       n = k.n;
       stands = (inr k.stands, refl);
       only = λ m s. elim s.0 [ inl b ↦ absurd (Memᴰ.not-nil b.given) | inr r ↦ k.only m r ];
@@ -84,10 +84,10 @@ module _ (x : Sample) (past : Past) where
     })
 
     -- rule 3
-    abbrev anUpdate : Message
-    anUpdate = report_of update p.warning v.events v.kept v
+    abbrev an_update : Message
+    an_update = report_of update p.warning v.events v.kept v
 
-    updates : After (anUpdate ∷ [])
+    updates : After (an_update ∷ [])
     unfolding standing_after ends_at among messages report_of view_of
     updates =
         let w = k.its_new in
@@ -96,7 +96,7 @@ module _ (x : Sample) (past : Past) where
           stands = (inr k.stands, refl);
           only = λ m s. elim s.0 [ inl b ↦ absurd (no_new refl m b) | inr r ↦ k.only m r ];
           older = k.older;
-          its_new = record { newer = anUpdate ∷ w.newer; place = ap (λ l. anUpdate ∷ l) w.place; is_a_new = w.is_a_new; own = w.own ∙ count };
+          its_new = record { newer = an_update ∷ w.newer; place = ap (λ l. an_update ∷ l) w.place; is_a_new = w.is_a_new; own = w.own ∙ count };
           warning = k.warning;
         }
 
@@ -105,19 +105,19 @@ module _ (x : Sample) (past : Past) where
   keeps Nothing e a f = none_stays e f
   keeps (Sent p) e a k =
       either (λ d. After (given_by d)) (cancel_due v p) (ends p e a.1 k)
-      (either (λ d. After (given_by d)) (update_due v p) (updates p e a.1 k) (silent-stays p e a.1 k))
+      (either (λ d. After (given_by d)) (update_due v p) (updates p e a.1 k) (silent_stays p e a.1 k))
 
   -- rule 1
   module _ (warning : ℕ) where
-    abbrev aNew : Message
-    aNew = report_of new warning (v.events + 1) v.recent v
+    abbrev a_new : Message
+    a_new = report_of new warning (v.events + 1) v.recent v
 
-    raised : (given older : List Message) → reverse_aux given (messages past) ≡ aNew ∷ older → standing_after (standing past) given ≡ Sent aNew
-        → Memᴰ aNew given → ends_at aNew (tick_with x given) past ≡ false → ((m : Message) → BeginsAt m (tick_with x given) → m ≡ aNew)
+    raised : (given older : List Message) → reverse_aux given (messages past) ≡ a_new ∷ older → standing_after (standing past) given ≡ Sent a_new
+        → Memᴰ a_new given → ends_at a_new (tick_with x given) past ≡ false → ((m : Message) → BeginsAt m (tick_with x given) → m ≡ a_new)
         → ((m : Message) → Stands m past → ends_at m (tick_with x given) past ≡ false → ⊥) → After given
     unfolding messages report_of
     raised given older e l i begins only none = rw l (record {
-      n = aNew;
+      n = a_new;
       stands = (inl (record { is_a_new = refl; given = i }), begins);
       only = λ m s. elim s.0 [ inl b ↦ only m b | inr r ↦ absurd (none m r s.1) ];
       older = older;
@@ -125,13 +125,13 @@ module _ (x : Sample) (past : Past) where
       warning = refl;
     })
 
-    raises : (n : Notice) → standing past ≡ n → Agrees (messages past) n → Found past n → After (noticed (cancel_standing v.tick n) ++ (aNew ∷ []))
+    raises : (n : Notice) → standing past ≡ n → Agrees (messages past) n → Found past n → After (noticed (cancel_standing v.tick n) ++ (a_new ∷ []))
     unfolding noticed cancel_standing cancel_of standing_after ends_at among report_of view_of
     raises Nothing e a f =
-        raised (aNew ∷ []) (messages past) refl refl (Memᴰ.head refl) refl
+        raised (a_new ∷ []) (messages past) refl refl (Memᴰ.head refl) refl
         (λ m b. elim (Memᴰ.cases_cons b.given) [ inl q ↦ q | inr j ↦ absurd (Memᴰ.not-nil j) ]) (λ m r l. f m r)
     raises (Sent p) e a k =
-        let given = cancel_of v.tick p ∷ aNew ∷ [] in
+        let given = cancel_of v.tick p ∷ a_new ∷ [] in
         let count = a.1 in
         let other = ne_eqb p.event (events (messages past) + 1) (λ q. omega arith) in
         raised given (cancel_of v.tick p ∷ messages past) refl refl (Memᴰ.tail (Memᴰ.head refl)) (rw other)

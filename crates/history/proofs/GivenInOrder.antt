@@ -29,14 +29,14 @@ due (m ∷ ms) = cond (is_cancel m) 0 1
 
 -- how a message may come next after those before it, the newest first
 pub data ComesNext (m : Message) (ms : List Message) : Type 0 where
-  a_new : m.kind ≡ new → due ms ≡ 0 → m.event ≡ events ms + 1 → ComesNext m ms
-  an_update : m.kind ≡ update → due (m ∷ ms) ≡ due ms → m.event ≡ events ms → ComesNext m ms
+  a_new_lem : m.kind ≡ new → due ms ≡ 0 → m.event ≡ events ms + 1 → ComesNext m ms
+  an_update_lem : m.kind ≡ update → due (m ∷ ms) ≡ due ms → m.event ≡ events ms → ComesNext m ms
   a_cancel : m.kind ≡ cancel → due ms ≡ 1 → m.event ≡ events ms → ComesNext m ms
 
 -- "event, the count of New messages so far, a New counting itself"
 pub new_event : (n : Message) (ms : List Message) → is_new n ≡ true → ComesNext n ms → n.event ≡ events ms + 1
-new_event n ms e (a_new k d v) = v
-new_event n ms e (an_update k d v) = absurd (false≢true (rw k at e))
+new_event n ms e (a_new_lem k d v) = v
+new_event n ms e (an_update_lem k d v) = absurd (false≢true (rw k at e))
 new_event n ms e (a_cancel k d v) = absurd (false≢true (rw k at e))
 
 -- each message comes next after those before it
@@ -80,18 +80,18 @@ module _ (v : View) (ms : List Message) (n : Notice) (count : v.events ≡ event
   keeps_order (Sent m) e =
       let a : Agrees ms (Sent m) = rw e at o.1 in
       either (λ d. After (given_by d)) (cancel_due v m) ((a_cancel refl a.0 a.1, o.0), refl)
-      (either (λ d. After (given_by d)) (update_due v m) ((an_update refl (sym a.0) count, o.0), (refl, count)) silent_in_order)
+      (either (λ d. After (given_by d)) (update_due v m) ((an_update_lem refl (sym a.0) count, o.0), (refl, count)) silent_in_order)
 
   raises_in_order : (warning : ℕ) (s : Notice) → n ≡ s
       → After (noticed (cancel_standing v.tick s) ++ (report_of new warning (v.events + 1) v.recent v ∷ []))
   unfolding noticed cancel_standing cancel_of report_of standing_after due events
   raises_in_order warning Nothing e =
       let next : v.events + 1 ≡ events ms + 1 = ap (λ k. k + 1) count in
-      ((a_new refl (rw e at o.1) next, o.0), (refl, next))
+      ((a_new_lem refl (rw e at o.1) next, o.0), (refl, next))
   raises_in_order warning (Sent m) e =
       let a : Agrees ms (Sent m) = rw e at o.1 in
       let next : v.events + 1 ≡ events ms + 1 = ap (λ k. k + 1) count in
-      ((a_new refl refl next, (a_cancel refl a.0 a.1, o.0)), (refl, next))
+      ((a_new_lem refl refl next, (a_cancel refl a.0 a.1, o.0)), (refl, next))
 
   decides_in_order : (S : Settings) → n ≡ v.standing → After (given_by (decide S v))
   unfolding decide raise given_by noticed

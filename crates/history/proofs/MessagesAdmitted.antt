@@ -83,34 +83,34 @@ module _ (x : Sample) (past : Past) (r : Reached past) (f : Fields x) (few : siz
   )
 
   module _ (m : Message) (s : LastReport past m) where
-    cancel-passes : T (admits (cancel_of (size past) m))
-    cancel-passes = admits_it _ (cancel_admitted (size past) m s.admitted (omega arith) (omega arith))
+    cancel_passes : T (admits (cancel_of (size past) m))
+    cancel_passes = admits_it _ (cancel_admitted (size past) m s.admitted (omega arith) (omega arith))
 
-    cancel-by-now : last_cancel (cancel_of (size past) m ∷ ms) ≤ size past
+    cancel_by_now : last_cancel (cancel_of (size past) m ∷ ms) ≤ size past
     unfolding last_cancel cancel_of
-    cancel-by-now = either (λ (k : ℕ). k ≤ size past) (eqb m.warning post_crash) (omega arith) r.last_cancel_by_now
+    cancel_by_now = either (λ (k : ℕ). k ≤ size past) (eqb m.warning post_crash) (omega arith) r.last_cancel_by_now
 
     -- "2. The standing one is cancelled"
-    cancel-fits : Fits (record { cancel = cancel_standing (size past) (Sent m); report = Nothing })
+    cancel_fits : Fits (record { cancel = cancel_standing (size past) (Sent m); report = Nothing })
     unfolding given_by noticed messages size cancel_standing cancel_of standing standing_after started counted last_cancel events
-    cancel-fits = (
-      (cancel-passes, tt),
+    cancel_fits = (
+      (cancel_passes, tt),
       record {
         filter_valid = filter_next _;
         started_by_now = omega arith;
         counted_by_now = omega arith;
-        last_cancel_by_now = omega (arith, cancel-by-now);
+        last_cancel_by_now = omega (arith, cancel_by_now);
         events_by_now = omega arith;
         last_report = tt;
       },
     )
 
-    abbrev anUpdate : Message
-    anUpdate = report_of update m.warning (events ms) v.kept v
+    abbrev an_update : Message
+    an_update = report_of update m.warning (events ms) v.kept v
 
-    update-admitted : Admitted anUpdate
+    update_admitted : Admitted an_update
     unfolding view_of
-    update-admitted =
+    update_admitted =
         let a = s.admitted in
         report_admitted update m.warning (events ms) v.kept v (omega arith) (omega arith) a.warning_low a.warning_high (omega (arith, a.event_low)) (omega arith)
         (λ q. still_counted _ _ past (s.happened q))
@@ -119,10 +119,10 @@ module _ (x : Sample) (past : Past) (r : Reached past) (f : Fields x) (few : siz
         f
 
     -- "3. Update"
-    update-fits : Fits (record { cancel = Nothing; report = Sent anUpdate })
+    update_fits : Fits (record { cancel = Nothing; report = Sent an_update })
     unfolding given_by noticed messages size report_of standing standing_after started counted last_cancel events view_of
-    update-fits = (
-      (admits_it _ update-admitted, tt),
+    update_fits = (
+      (admits_it _ update_admitted, tt),
       record {
         filter_valid = filter_next _;
         started_by_now = omega arith;
@@ -130,7 +130,7 @@ module _ (x : Sample) (past : Past) (r : Reached past) (f : Fields x) (few : siz
         last_cancel_by_now = omega arith;
         events_by_now = omega arith;
         last_report = record {
-          admitted = update-admitted;
+          admitted = update_admitted;
           no_cancel = tt;
           earlier = omega arith;
           newest = refl;
@@ -142,15 +142,15 @@ module _ (x : Sample) (past : Past) (r : Reached past) (f : Fields x) (few : siz
   keep_fits : (n : Notice) → IfSent (LastReport past) n → Fits (keep v n)
   unfolding keep view_of
   keep_fits Nothing s = silent_fits
-  keep_fits (Sent m) s = either Fits (cancel_due v m) (cancel-fits m s) (either Fits (update_due v m) (update-fits m s) silent_fits)
+  keep_fits (Sent m) s = either Fits (cancel_due v m) (cancel_fits m s) (either Fits (update_due v m) (update_fits m s) silent_fits)
 
   module _ (warning : ℕ) (low : 1 ≤ warning) (high : warning ≤ warning_count) (happened : warning ≡ 3 → 1 ≤ v.recent) where
-    abbrev aNew : Message
-    aNew = report_of new warning (events ms + 1) v.recent v
+    abbrev a_new : Message
+    a_new = report_of new warning (events ms + 1) v.recent v
 
-    new-admitted : Admitted aNew
+    new_admitted : Admitted a_new
     unfolding view_of
-    new-admitted =
+    new_admitted =
         report_admitted new warning (events ms + 1) v.recent v (omega arith) (omega arith) low high (omega arith) (omega arith)
         happened
         (quality_at_most_3 _ _)
@@ -158,18 +158,18 @@ module _ (x : Sample) (past : Past) (r : Reached past) (f : Fields x) (few : siz
         f
 
     -- a New, given after messages that leave the count of News and what 3 counts
-    new-reached : (given before : List Message) → messages (tick_with x given ∷ past) ≡ aNew ∷ before → standing (tick_with x given ∷ past) ≡ Sent aNew
+    new_reached : (given before : List Message) → messages (tick_with x given ∷ past) ≡ a_new ∷ before → standing (tick_with x given ∷ past) ≡ Sent a_new
         → events before ≡ events ms → last_cancel before ≤ size past → (warning ≡ 3 → last_cancel before ≡ last_cancel ms)
         → Reached (tick_with x given ∷ past)
     unfolding size report_of started counted counted_from last_cancel events view_of
-    new-reached given before e stands count lastcancel same = record {
+    new_reached given before e stands count lastcancel same = record {
       filter_valid = filter_next given;
       started_by_now = rw e (omega arith);
       counted_by_now = rw e (omega arith);
       last_cancel_by_now = rw e (omega arith);
       events_by_now = rw e (omega arith);
       last_report = rw stands (record {
-        admitted = new-admitted;
+        admitted = new_admitted;
         no_cancel = tt;
         earlier = omega arith;
         newest = rw (e, count);
@@ -178,20 +178,20 @@ module _ (x : Sample) (past : Past) (r : Reached past) (f : Fields x) (few : siz
     }
 
     -- "1. .. Cancel of the standing one, if any, then New of the highest"; one that 3 outranks is not 3, so its Cancel leaves what 3 counts
-    raise-fits : (n : Notice) → IfSent (LastReport past) n → standing_rank n < rank warning
-        → Fits (record { cancel = cancel_standing (size past) n; report = Sent aNew })
+    raise_fits : (n : Notice) → IfSent (LastReport past) n → standing_rank n < rank warning
+        → Fits (record { cancel = cancel_standing (size past) n; report = Sent a_new })
     unfolding given_by noticed messages standing standing_after standing_rank cancel_standing cancel_of report_of last_cancel events
-    raise-fits Nothing s outranked = ((admits_it _ new-admitted, tt), new-reached _ ms refl refl refl r.last_cancel_by_now (λ q. refl))
-    raise-fits (Sent m) s outranked =
+    raise_fits Nothing s outranked = ((admits_it _ new_admitted, tt), new_reached _ ms refl refl refl r.last_cancel_by_now (λ q. refl))
+    raise_fits (Sent m) s outranked =
         let not-3 : warning ≡ 3 → m.warning ≡ 3 → ⊥ = λ q e. let z : rank m.warning ≡ rank warning = cc in omega arith in
-        ((cancel-passes m s, (admits_it _ new-admitted, tt)), new-reached _ (cancel_of (size past) m ∷ ms) refl refl refl (cancel-by-now m s) (λ q. rw (ne_eqb m.warning post_crash (not-3 q))))
+        ((cancel_passes m s, (admits_it _ new_admitted, tt)), new_reached _ (cancel_of (size past) m ∷ ms) refl refl refl (cancel_by_now m s) (λ q. rw (ne_eqb m.warning post_crash (not-3 q))))
 
   -- "A warning outranking the standing one triggers (with none standing, any)"
   overrule_fits : (S : Settings) (warning : ℕ) → Overruling S v warning → Fits (raise v warning)
   unfolding raise view_of triggers
   overrule_fits S warning o =
       let happened : warning ≡ 3 → 1 ≤ v.recent = λ q. crash_counted v (true_holds _ (rw q at o.triggered)) in
-      raise-fits warning o.low o.high happened (standing past) r.last_report o.outranks
+      raise_fits warning o.low o.high happened (standing past) r.last_report o.outranks
 
   -- "At tick i, first that applies"
   decision_fits : (S : Settings) → Fits (decide S v)

@@ -13,7 +13,7 @@ use Rattle.history.specs.Rules.{Settings}
 use Rattle.history.specs.History.{is_new, messages, events, given_during}
 use Rattle.history.specs.Standing.{cancels}
 use Rattle.history.proofs.GivenInOrder.{due, ComesNext, InOrder, in_order_before, messages_after, given_in_order}
-use Rattle.history.proofs.GivenInOrder.ComesNext.{a_new, an_update, a_cancel}
+use Rattle.history.proofs.GivenInOrder.ComesNext.{a_new_lem, an_update_lem, a_cancel}
 
 until_new : (mid : List Message) (m : Message) (b ms : List Message) → m.kind ≡ new → events mid ≡ 0
     → InOrder (reverse_aux (mid ++ (m ∷ b)) ms) → cancels mid ≡ due ms
@@ -21,14 +21,14 @@ unfolding events cancels due
 until_new [] m b ms k z o = go (in_order_before b (m ∷ ms) o).0
   where
     go : ComesNext m ms → 0 ≡ due ms
-    go (a_new l d v) = sym d
-    go (an_update l d v) = absurd (omega arith)
+    go (a_new_lem l d v) = sym d
+    go (an_update_lem l d v) = absurd (omega arith)
     go (a_cancel l d v) = absurd (omega arith)
 until_new (n ∷ mid) m b ms k z o = go (in_order_before (mid ++ (m ∷ b)) (n ∷ ms) o).0 z (λ y. until_new mid m b (n ∷ ms) k y o)
   where
     go : ComesNext n ms → events (n ∷ mid) ≡ 0 → (events mid ≡ 0 → cancels mid ≡ due (n ∷ ms)) → cancels (n ∷ mid) ≡ due ms
-    go (a_new l d v) y ih = let f : events mid + 1 ≡ 0 = rw l at y in absurd (omega arith)
-    go (an_update l d v) y ih = rw l (ih (rw l at y) ∙ d)
+    go (a_new_lem l d v) y ih = let f : events mid + 1 ≡ 0 = rw l at y in absurd (omega arith)
+    go (an_update_lem l d v) y ih = rw l (ih (rw l at y) ∙ d)
     go (a_cancel l d v) y ih = let c : cancels mid ≡ 0 = rw l at (ih (rw l at y)) in rw (l, d, c)
 
 -- "Two New messages are neighbouring if no New lies between them": then one Cancel lies between them

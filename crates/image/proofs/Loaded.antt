@@ -23,9 +23,9 @@ module _ (s : List ℕ) where
   other_length h = simp (ne_eqb _ _ h)
 
   module _ (whole : length s ≡ image_size) where
-    other-layout : (get_or s 0 0 ≡ layout → ⊥) → is_image s ≡ false
+    other_layout : (get_or s 0 0 ≡ layout → ⊥) → is_image s ≡ false
     unfolding is_image
-    other-layout h = simp (eq-eqb _ _ whole, ne_eqb _ _ h)
+    other_layout h = simp (eq-eqb _ _ whole, ne_eqb _ _ h)
 
     module _ (known : get_or s 0 0 ≡ layout) (state : State) (e : state ≡ state_in s) (inside : Bool) (f : inside ≡ state_in_range state) where
       out_of_range : not inside ≡ true → is_image s ≡ false
@@ -45,7 +45,7 @@ module _ (s : List ℕ) (r : Loading) (no : r.fault ≡ 21) where
   refused_length h = refused (other_length s h)
 
   pub refused_layout : length s ≡ image_size → (get_or s 0 0 ≡ layout → ⊥) → Loaded s r
-  refused_layout whole h = refused (other-layout s whole h)
+  refused_layout whole h = refused (other_layout s whole h)
 
   module _ (whole : length s ≡ image_size) (known : get_or s 0 0 ≡ layout) (state : State) (e : state ≡ state_in s) (inside : Bool) (f : inside ≡ state_in_range state) where
     pub refused_range : not inside ≡ true → Loaded s r
