@@ -11,8 +11,12 @@ A lemma that would have a function's name gets _lem; a dash stays where it joins
 import glob
 import re
 
-# Fields of theorems that would have the name of a function that stands beside them.
+# Fields of theorems that would have the name of a function that stands beside them, and names with a number or single letters.
 BY_HAND = {
+    "atMost8": "is_at_most_8",
+    "oneOfAtoD": "one_of_a_to_d",
+    "oneOfEtoH": "one_of_e_to_h",
+    "refusalsWith99": "refusals_with_99",
     "bonnet-open": "bonnet_open_stop",
     "boot-open": "boot_open_stop",
     "low-severity": "low_severity_stop",
@@ -58,7 +62,7 @@ def joined(name):
 def renamings():
     found = definitions()
     functions = {n for n in found if "-" not in n and n[:1].islower()}
-    taken = {snake(n) for n in functions}
+    taken = {BY_HAND.get(n) or snake(n) for n in functions}
     names = {}
     for n in found:
         if not n[:1].islower():
@@ -70,7 +74,7 @@ def renamings():
                 if new in taken:
                     new += "_lem"
         else:
-            new = snake(n)
+            new = BY_HAND.get(n) or snake(n)
         if new != n:
             names[n] = new
     # two lemmas that had their functions' names in the older spelling, and do not in this one

@@ -3,7 +3,7 @@
 use Rattle.std.specs.Prelude.{ℕ, ◌<◌, ◌≡◌, true, false, List, [], ◌∷◌, map, replicate}
 use Rattle.std.specs.Float.{binary32}
 use Rattle.std.specs.Float.Ieee.{of_bits}
-use Rattle.filter.specs.Filter.{as_f32, Between, at_most8, in_range, Valid, after_readings, Readings}
+use Rattle.filter.specs.Filter.{as_f32, Between, is_at_most_8, in_range, Valid, after_readings, Readings}
 use Rattle.filter.specs.declared.Filter.{Filter}
 use Rattle.filter.specs.declared.Filter.TheVariants.{Empty, Running}
 
@@ -32,7 +32,7 @@ pub record FilterExamples : Type 0 where
   pub between : Inside 1 3 1 × Inside 1 3 2 × Inside 1 3 3 × Inside 3 1 1 × Inside 3 1 2 × Inside 3 1 3
   pub not_between : (Inside 1 3 0 → ⊥) × (Inside 1 3 4 → ⊥) × (Inside 3 1 0 → ⊥) × (Inside 3 1 4 → ⊥)
   -- "F is at most 8": 0.0, 8.0, the f32 next above it, no number; and a filter without a reading
-  pub at_most_8 : map at_most8 (running 0 ∷ running 0x41000000 ∷ running 0x41000001 ∷ running 0x7fc00000 ∷ Empty ∷ [])
+  pub at_most_8 : map is_at_most_8 (running 0 ∷ running 0x41000000 ∷ running 0x41000001 ∷ running 0x7fc00000 ∷ Empty ∷ [])
       ≡ true ∷ true ∷ false ∷ false ∷ false ∷ []
   -- the range of refusal 21, from below: the f32 next below 0, -0.0, 0.0, 16382.0, the f32 next above it, no number; and a filter without a reading
   pub range : map in_range (running 0x80000001 ∷ running 0x80000000 ∷ running 0 ∷ running 0x467ff800 ∷ running 0x467ff801 ∷ running 0x7fc00000 ∷ Empty ∷ [])
@@ -40,9 +40,9 @@ pub record FilterExamples : Type 0 where
 
 pub record FilterLaws : Type 0 where
   -- "A first reading of 9 and then steadily 8 never becomes still, since rounding keeps F above 8."
-  pub nine_then_eights : (n : ℕ) → at_most8 (reached (9 ∷ replicate n 8)) ≡ false
+  pub nine_then_eights : (n : ℕ) → is_at_most_8 (reached (9 ∷ replicate n 8)) ≡ false
   -- "Speeds 100, then 0: still first at tick 9."
-  pub hundred_then_fewer_zeros : (n : ℕ) → n < 9 → at_most8 (reached (100 ∷ replicate n 0)) ≡ false
-  pub hundred_then_nine_zeros : at_most8 (reached (100 ∷ replicate 9 0)) ≡ true
+  pub hundred_then_fewer_zeros : (n : ℕ) → n < 9 → is_at_most_8 (reached (100 ∷ replicate n 0)) ≡ false
+  pub hundred_then_nine_zeros : is_at_most_8 (reached (100 ∷ replicate 9 0)) ≡ true
   -- "no state reached from a fresh engine is" outside the ranges
   pub range_kept : (readings : List ℕ) → Readings readings → Valid (reached readings)

@@ -56,16 +56,16 @@ unfoldable pub Between : Float → Float → Float → Type 0
 Between a b z = (T (le a z) × T (le z b)) ⊎ (T (le b z) × T (le z a))
 
 -- "F is at most 8", which a filter without a reading is not
-unfoldable pub at_most8 : Filter → Bool
-at_most8 Empty = false
-at_most8 (Running f) = le f eight
+unfoldable pub is_at_most_8 : Filter → Bool
+is_at_most_8 Empty = false
+is_at_most_8 (Running f) = le f eight
 
 -- not "a number outside the ranges": the filter is empty, or F is from 0 to 16,382, as readings are; -0 equals 0
 unfoldable pub in_range : Filter → Bool
 in_range Empty = true
 in_range (Running f) = le lowest f && le f highest
 
--- "a 32-bit float F": every F of a program is one (`owned-f32`), but `Float` has values that no f32 holds
+-- "a 32-bit float F": every F of a program is one (`owned_f32`), but `Float` has values that no f32 holds
 unfoldable pub is_f32 : Filter → Bool
 is_f32 Empty = true
 is_f32 (Running f) = fits binary32 f

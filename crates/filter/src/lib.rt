@@ -4,7 +4,7 @@
 ghost use Rattle.std.specs.Prelude.{◌≡◌};
 ghost use Rattle.std.specs.Float.{binary32};
 ghost use Rattle.std.specs.Float.Ieee.{to_bits};
-ghost use Rattle.filter.specs.Filter.{as_f32, blend, at_most8, in_range, Moved};
+ghost use Rattle.filter.specs.Filter.{as_f32, blend, is_at_most_8, in_range, Moved};
 
 use sample::NO_READING;
 
@@ -34,7 +34,7 @@ impl Filter {
 
     // Whether the value is low enough for a stationary vehicle. Without a reading yet there is no value, and the answer is no.
     pub fn at_most_8(self) -> bool
-        ensures { result ≡ at_most8 self }
+        ensures { result ≡ is_at_most_8 self }
     {
         match self {
             Filter::Empty => false,

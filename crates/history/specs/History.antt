@@ -7,7 +7,7 @@ use Rattle.sample.specs.declared.Sample.{Sample}
 use Rattle.sample.specs.Sample.{switches_of, happenings_of, has_reading}
 use Rattle.filter.specs.declared.Filter.{Filter}
 use Rattle.filter.specs.declared.Filter.TheVariants.{Empty}
-use Rattle.filter.specs.Filter.{next, at_most8}
+use Rattle.filter.specs.Filter.{next, is_at_most_8}
 use Rattle.message.specs.declared.Message.{Message}
 use Rattle.history.specs.declared.Notice.{Notice}
 use Rattle.history.specs.declared.Notice.TheVariants.{Nothing, Sent}
@@ -74,7 +74,7 @@ filter_after (t ∷ past) = next (filter_after past) t.sample.speed
 
 -- "Still: the sample has a reading and F is at most 8", by the filter with the sample and the sample's speed
 unfoldable pub is_still : Filter → ℕ → Bool
-is_still f speed = has_reading speed && at_most8 f
+is_still f speed = has_reading speed && is_at_most_8 f
 
 unfoldable pub stationary : Fact
 stationary t past = is_still (filter_after (t ∷ past)) t.sample.speed
@@ -119,12 +119,12 @@ unfoldable pub condition_d : Fact
 condition_d = off_held 30 belted
 
 -- one of a-d is fulfilled
-unfoldable pub one_of_ato_d : Fact
-one_of_ato_d t past = condition_a t past || condition_b t past || condition_c t past || condition_d t past
+unfoldable pub one_of_a_to_d : Fact
+one_of_a_to_d t past = condition_a t past || condition_b t past || condition_c t past || condition_d t past
 
 -- "e ignition switched off; f door, g boot, h bonnet open": one of them is fulfilled
-unfoldable pub one_of_eto_h : Fact
-one_of_eto_h t past = off_held 30 ignited t past || held 30 door_open t past || held 30 boot_open t past || held 30 bonnet_open t past
+unfoldable pub one_of_e_to_h : Fact
+one_of_e_to_h t past = off_held 30 ignited t past || held 30 door_open t past || held 30 boot_open t past || held 30 bonnet_open t past
 
 -- the ignition was on at the newest tick
 unfoldable pub was_ignited : Past → Bool
@@ -198,7 +198,7 @@ cycle_of warning h = record {
   idle = during (ready warning) condition_b h;
   brake = during (ready warning) condition_c h;
   belt = during (ready warning) condition_d h;
-  expiring = during (ready warning) one_of_eto_h h;
+  expiring = during (ready warning) one_of_e_to_h h;
 }
 
 -- ---- the happenings of warning 3
@@ -232,8 +232,8 @@ view_of x past =
       stationary = run stationary h;
       moving = run (never stationary) h;
       switchedoff = not (switches_of x).ignition && was_ignited past;
-      shortening = one_of_ato_d (present x) past;
-      expiring = one_of_eto_h (present x) past;
+      shortening = one_of_a_to_d (present x) past;
+      expiring = one_of_e_to_h (present x) past;
       stoppedcycle = cycle_of stopped h;
       brokendowncycle = cycle_of broken_down h;
       recent = highest_quality (counted_from (size past) ms) h;

@@ -8,7 +8,7 @@ use Rattle.sample.specs.Sample.{switches_of}
 use Rattle.message.specs.declared.Message.{Message}
 use Rattle.history.specs.declared.View.{View}
 use Rattle.history.specs.Rules.{Settings, rank, overrules}
-use Rattle.history.specs.History.{Past, Fact, never, size, stationary, parked, idling, braked, belted, ignited, door_open, boot_open, bonnet_open, condition_a, condition_b, condition_c, condition_d, one_of_eto_h, is_new, is_cancel, ready, ecall_pressed, low_severity, high_severity}
+use Rattle.history.specs.History.{Past, Fact, never, size, stationary, parked, idling, braked, belted, ignited, door_open, boot_open, bonnet_open, condition_a, condition_b, condition_c, condition_d, one_of_e_to_h, is_new, is_cancel, ready, ecall_pressed, low_severity, high_severity}
 use Rattle.history.specs.Standing.{among, Stands}
 
 -- whether the history has a tick k and p is true at it
@@ -87,7 +87,7 @@ pub record CycleTriggers (S : Settings) (warning : ℕ) (h : Past) (i : ℕ) : T
   pub cycle : IsCycle warning h a i
   pub k : ℕ
   pub number : Fulfilled h a i (condition_a ∷ condition_b ∷ condition_c ∷ condition_d ∷ []) k
-  pub due : (S.countdown ≤ (i - a) + S.reduction * k) ⊎ AtSome one_of_eto_h h a i
+  pub due : (S.countdown ≤ (i - a) + S.reduction * k) ⊎ AtSome one_of_e_to_h h a i
 
 -- ---- the happenings of warning 3
 

@@ -11,7 +11,7 @@ use Rattle.message.specs.declared.Message.{Message}
 use Rattle.message.specs.declared.Reading.TheVariants.{Accepted, Refused}
 use Rattle.message.specs.Message.{encode, message_of, message_read, reading, write_fault}
 
--- kind, warning, quality, roadType, stationary_since, event, detection, reference, east, north, heading, validity
+-- kind, warning, quality, roadType, stationarySince, event, detection, reference, east, north, heading, validity
 abbrev pub message : ℕ → ℕ → ℕ → ℕ → ℕ → ℕ → ℕ → ℕ → ℤ → ℤ → ℕ → ℕ → Message
 message kind warning quality roadtype since event detection reference east north heading validity = record {
   kind = kind;

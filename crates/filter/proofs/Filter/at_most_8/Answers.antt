@@ -1,12 +1,12 @@
-use Rattle.filter.specs.Filter.{at_most8}
+use Rattle.filter.specs.Filter.{is_at_most_8}
 use Rattle.filter.proofs.Filter.at_most_8.Goals as goal
 
--- `Filter::at_most_8` meets its contract: each arm of the match is a clause of `at_most8`. Assumes nothing.
+-- `Filter::at_most_8` meets its contract: each arm of the match is a clause of `is_at_most_8`. Assumes nothing.
 
 pub returns-in-Empty : goal.returns-in-Empty
-unfolding at_most8
+unfolding is_at_most_8
 returns-in-Empty c = simp c.in-Empty.is
 
 pub returns-in-Running : goal.returns-in-Running
-unfolding at_most8
+unfolding is_at_most_8
 returns-in-Running c = simp c.in-Running.is
