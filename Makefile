@@ -1,9 +1,9 @@
-# run: the messages of a sample recording. test: all proofs, must-fail edits, programs and comparisons, from nothing.
+# run: the messages of a sample recording. test: all proofs, must-fail edits, programs and comparisons.
 # lib: the static library for C or Rust, with its header beside it. bench: times.
 RECORDING = crates/yoldrim/stdin
 ROUNDS = 250
 TICKS = 4000000
-SOURCES = crates.txt $(shell find crates -name '*.rt' -o -name '*.antt')
+SOURCES = crates.txt $(shell find crates -name out -prune -o \( -name '*.rt' -o -name '*.antt' \) -print)
 
 .PHONY: run test lib bench
 
@@ -13,14 +13,14 @@ run: target/bin/yoldrim
 # rt proves what has changed and builds the program, which it then runs, here on no input. What it shows goes to standard error, so that
 # the messages stand alone.
 target/bin/yoldrim: $(SOURCES)
-	@bash tests/progress.sh target/program.log tests/in_crate.sh yoldrim run >&2
+	@bash tests/progress.sh target/program.log bash tests/in_crate.sh yoldrim run >&2
 	@mkdir -p target/bin
 	@cp crates/yoldrim/out/yoldrim $@
 
 lib: target/libyoldrim.a
 
 target/libyoldrim.a: $(SOURCES) include/yoldrim.h
-	@bash tests/progress.sh target/lib.log tests/in_crate.sh capi lib
+	@bash tests/progress.sh target/lib.log bash tests/in_crate.sh capi lib
 	@cp crates/capi/out/libcapi.a $@
 	@cp include/yoldrim.h target/
 	@echo "made $@, with yoldrim.h beside it"

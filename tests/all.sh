@@ -1,5 +1,5 @@
 #!/usr/bin/env bash
-# All tests, from nothing: the proofs with the must-fail edits and the programs (rt ci), the example recordings, the C example, and the
+# All tests: the proofs with the must-fail edits and the programs (rt ci), the example recordings, the C example, and the
 # comparison of the static library with the second implementation. The last line is that of rt ci, printed only when all passed.
 # Usage: tests/all.sh [ROUNDS], the number of rounds of random days in the comparison.
 set -euo pipefail
@@ -9,9 +9,14 @@ log=$(mktemp)
 trap 'rm -f "$log"' EXIT
 
 bash tests/progress.sh "$log" rt ci
-# rt ci passes over an edit that cannot be applied or read, and only counts it.
-if grep -E '^rt: ok.*, [1-9][0-9]* bad' "$log"; then
-    echo "a must-fail edit counts for nothing"
+# rt ci passes where an edit cannot be applied or read, and only counts it as bad.
+edits=$(find crates/*/must-fail -name '*.edit' | wc -l)
+if ! grep -q "^rt: ok;.* must-fail edits: $edits refused;" "$log"; then
+    echo "not all of the $edits must-fail edits were refused"
+    exit 1
+fi
+if grep -E 'only because a proof file names|only by a limit' "$log"; then
+    echo "a must-fail edit was refused, but not for a fact"
     exit 1
 fi
 make --no-print-directory target/bin/yoldrim

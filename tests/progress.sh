@@ -1,6 +1,6 @@
 #!/usr/bin/env bash
-# Runs a command of rt, and shows a line for each crate and each must-fail edit as it is done. LOG keeps all that the command prints,
-# and is shown whole where it fails.
+# Runs a command of rt, and shows what it says of each crate as it is done, and of its must-fail edits. LOG keeps all that the command
+# prints, and is shown whole where it fails.
 # Usage: tests/progress.sh LOG COMMAND..
 set -euo pipefail
 log=$1

@@ -77,8 +77,8 @@ def renamings():
             new = BY_HAND.get(n) or snake(n)
         if new != n:
             names[n] = new
-    # two lemmas that had their functions' names in the older spelling, and do not in this one
-    names.update({"same_bytes": "same_bytes_lem", "same_row": "same_row_lem"})
+    # Two lemmas whose names the port's script turned already, and that would have their functions' names now.
+    names |= {snake(n): snake(n) + "_lem" for n in ("sameBytes", "sameRow") if n in found}
     return names
 
 
