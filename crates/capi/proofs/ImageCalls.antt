@@ -1,26 +1,29 @@
 -- A call on an image does what the engine's call does on the engine in it.
 -- Assumes nothing.
 use mathlib.Core.Path.{◌≡◌, refl, sym, ap, ◌∙◌}
-use mathlib.Core.Bool.{Bool, true, false, cond}
+use mathlib.Core.Bool.{Bool, true, false, not, cond}
 use mathlib.Core.List.{List, [], append-nil}
 use Prim.Native.Nat.{ℕ, ◌≤◌}
 use native.Mathlib.Omega.{arith}
-use borrow.Author.Tests.{ne_eqb}
+use borrow.Author.Tests.{ne_eqb, not-false}
 use lib.Dec.{eqb}
 use lib.IntN.{ℤ, pos, neg_ℤ}
 use lib.ListN.{length, drop, drop_of_length-le}
 use mir.Syntax.{w32}
 use mir.Val.{to_z, of_z, SFits}
-use Rattle.wire.specs.declared.Answer.{Answer}
 use Rattle.wire.specs.Memory.{splice, overlay}
-use Rattle.wire.specs.Outcome.{accepted, refused, outcome, answered}
-use Rattle.wire.proofs.FirstFault.{outcome_refused, memory_refused}
+use Rattle.wire.specs.Outcome.{first_fault, accepted, refused, outcome, number_of, Answer, answered}
+use Rattle.std.specs.Prelude.{Ok, Err}
+use Rattle.std.specs.Result.{is_ok}
+use Rattle.wire.specs.declared.Refusal.{Refusal}
+use Rattle.wire.proofs.FirstFault.{accepted_clear, numbered, outcome_refused, memory_refused}
 use Rattle.wire.proofs.Splice.{splice-overlay}
 use Rattle.sample.specs.declared.Sample.{Sample}
 use Rattle.history.specs.declared.State.{State}
 use Rattle.history.specs.Rules.{unit_settings}
 use Rattle.history.specs.Runs.{run_count}
 use Rattle.history.specs.State.{state_after, steps_give}
+use Rattle.calls.proofs.CallFaults.{lent_checks, lent_passes}
 use Rattle.calls.specs.Calls.{Call, lent, samples_added, call_state, call_answer, call_memory, state_fault, Meets}
 use Rattle.image.specs.Image.{image_size, image_of, state_in, is_image}
 use Rattle.image.proofs.NumbersIn.{runs_in_length}
@@ -55,12 +58,31 @@ kept_image fault xs image h = go (eqb fault 0)
     go true = image_written (state_after unit_settings (state_in image) xs) image (runs_kept unit_settings (state_in image) xs (state_runs image)) h
     go false = refl
 
+-- the memory after a call, by whether it is accepted
+pub kept_accepted : (a : Answer) (s : State) (image last : List ℕ) → is_ok a ≡ true → last ≡ splice image 0 (image_of s) → last ≡ image_kept (answered a) s image
+unfolding image_kept answered
+kept_accepted (Ok n) s image last h e = e
+kept_accepted (Err r) s image last h e = let z : ◌≡◌ {A = ℕ} 0 1 = cc in absurd (omega arith)
+
+pub kept_refused : (a : Answer) (s : State) (image last : List ℕ) → is_ok a ≡ false → last ≡ image → last ≡ image_kept (answered a) s image
+unfolding image_kept answered
+kept_refused (Ok n) s image last h e = let z : ◌≡◌ {A = ℕ} 0 1 = cc in absurd (omega arith)
+kept_refused (Err r) s image last h e = e
+
+-- the state that passes the checks of what is lent is that of an image
+pub lent_accepted : (image bytes : List ℕ) (size room needed : ℕ) (s : State)
+    → accepted s ≡ outcome (first_fault (lent_checks (not (is_image image)) bytes size room needed)) (state_in image)
+    → (is_image image ≡ true) × (state_in image ≡ s)
+lent_accepted image bytes size room needed s e =
+    let a = accepted_clear (first_fault (lent_checks (not (is_image image)) bytes size room needed)) (state_in image) s (sym e) in
+    (not-false (is_image image) (lent_passes (not (is_image image)) bytes size room needed (sym a.0)).ranges, a.1)
+
 module _ (image : List ℕ) (c : Call) where
   -- a refused call
-  pub image_refused : (n : ℕ) (r : ℤ) → n ≡ image_fault image c → (n ≡ 0 → ⊥) → r ≡ neg_ℤ (pos n) → ImageMeets image c r image (lent c)
+  pub image_refused : (x : Refusal) (r : ℤ) → number_of x ≡ image_fault image c → r ≡ neg_ℤ (pos (number_of x)) → ImageMeets image c r image (lent c)
   unfolding answer_number call_answer call_image call_memory
-  image_refused n r f z e =
-      let k : image_fault image c ≡ 0 → ⊥ = λ q. z (f ∙ q) in
+  image_refused x r f e =
+      let k : image_fault image c ≡ 0 → ⊥ = λ q. numbered x (f ∙ q) in
       record {
         answer = e ∙ sym (ap answer_number (outcome_refused (image_fault image c) (length (steps_give unit_settings (state_in image) (samples_added c))) k ∙ ap refused (sym f)));
         image = simp (ne_eqb _ _ k);

@@ -2,21 +2,19 @@
 // and a negative one is minus the refusal number.
 #![tactic(auto)]
 
-ghost use Rattle.std.specs.Prelude.{◌≡◌, ◌≤◌, pos, neg_ℤ};
-ghost use Rattle.wire.specs.Outcome.{answered, given_count};
+ghost use Rattle.std.specs.Prelude.{◌≡◌, not, [], ◌∷◌, eqb, ltb, length, ◌≤◌, pos, neg_ℤ};
+ghost use Rattle.wire.specs.Outcome.{check, first_fault, number_of, outcome, answered, given_count};
 ghost use Rattle.message.specs.Message.{message_read};
 ghost use Rattle.block.specs.Block.{block_read, block_read_memory, block_write, block_write_memory};
 ghost use Rattle.calls.specs.Calls.{sample_call, block_call};
+ghost use Rattle.image.specs.Image.{is_image, state_in};
 ghost use Rattle.capi.specs.Imaged.{answer_number, check_number, image_kept, ImageMeets};
 ghost use Rattle.capi.specs.ImageDemand.{FreshImaged};
 
 use engine::{Called, Engine};
+use history::State;
 use image::BYTES;
-use message::Reading;
-use wire::Answer;
-
-// The answer for memory that holds no image of an engine.
-const NO_ENGINE: i32 = -21;
+use wire::Refusal;
 
 // Writes the image of an engine that has taken no sample.
 #[unsafe(no_mangle)]
@@ -24,11 +22,10 @@ pub extern "C" fn yoldrim_fresh(memory: &mut [u8]) -> i32
     ensures { FreshImaged memory.old result memory.new }
 {
     if memory.len() != BYTES {
-        return NO_ENGINE;
+        return minus(Refusal::EngineState);
     }
     let e = Engine::fresh();
-    let fresh = image::save(e.state);
-    wire::copy_at(memory, 0, &fresh);
+    wire::copy_at(memory, 0, &image::save(e.state));
     0
 }
 
@@ -37,20 +34,10 @@ pub extern "C" fn yoldrim_fresh(memory: &mut [u8]) -> i32
 pub extern "C" fn yoldrim_sample(memory: &mut [u8], bytes: &[u8], out: &mut [u8]) -> i32
     ensures { ImageMeets memory.old (sample_call bytes.now out.old) result memory.new out.new }
 {
-    if bytes.len() != 20 {
-        return -1;
+    match lent_state(memory, bytes, 20, out.len(), 64) {
+        Ok(state) => finish(Engine { state }.step(bytes, out), memory),
+        Err(refusal) => minus(refusal),
     }
-    if out.len() < 64 {
-        return -2;
-    }
-    let loading = image::load(memory);
-    if loading.fault != 0 {
-        return NO_ENGINE;
-    }
-    let state = loading.state;
-    let e = Engine { state };
-    let called = e.step(bytes, out);
-    finish(called, memory)
 }
 
 // Takes all samples of a block or none, and answers how many messages were written.
@@ -58,20 +45,10 @@ pub extern "C" fn yoldrim_sample(memory: &mut [u8], bytes: &[u8], out: &mut [u8]
 pub extern "C" fn yoldrim_block(memory: &mut [u8], bytes: &[u8], out: &mut [u8]) -> i32
     ensures { ImageMeets memory.old (block_call bytes.now out.old) result memory.new out.new }
 {
-    if bytes.len() != 512 {
-        return -1;
+    match lent_state(memory, bytes, 512, out.len(), 1600) {
+        Ok(state) => finish(Engine { state }.block(bytes, out), memory),
+        Err(refusal) => minus(refusal),
     }
-    if out.len() < 1600 {
-        return -2;
-    }
-    let loading = image::load(memory);
-    if loading.fault != 0 {
-        return NO_ENGINE;
-    }
-    let state = loading.state;
-    let e = Engine { state };
-    let called = e.block(bytes, out);
-    finish(called, memory)
 }
 
 // Copies the samples of a block to the output, and answers how many they are.
@@ -79,8 +56,7 @@ pub extern "C" fn yoldrim_block(memory: &mut [u8], bytes: &[u8], out: &mut [u8])
 pub extern "C" fn yoldrim_block_read(bytes: &[u8], out: &mut [u8]) -> i32
     ensures { (result ≡ answer_number (block_read bytes.now out.old)) × (out.new ≡ block_read_memory bytes.now out.old) }
 {
-    let read = block::read(bytes, out);
-    number(read)
+    number(block::read(bytes, out))
 }
 
 // Writes the block of these samples, and answers how many they are.
@@ -88,8 +64,7 @@ pub extern "C" fn yoldrim_block_read(bytes: &[u8], out: &mut [u8]) -> i32
 pub extern "C" fn yoldrim_block_write(samples: &[u8], out: &mut [u8]) -> i32
     ensures { (result ≡ answer_number (block_write samples.now out.old)) × (out.new ≡ block_write_memory samples.now out.old) }
 {
-    let written = block::write(samples, out);
-    number(written)
+    number(block::write(samples, out))
 }
 
 // Answers 0 for the record of a message, or minus the number that refuses it.
@@ -97,26 +72,45 @@ pub extern "C" fn yoldrim_block_write(samples: &[u8], out: &mut [u8]) -> i32
 pub extern "C" fn yoldrim_message_check(bytes: &[u8]) -> i32
     ensures { result ≡ check_number (message_read bytes.now) }
 {
-    let reading = message::read(bytes);
-    match reading {
-        Reading::Accepted(_) => 0,
-        Reading::Refused(n) => minus(n),
+    match message::read(bytes) {
+        Ok(_) => 0,
+        Err(refusal) => minus(refusal),
     }
 }
 
-fn minus(n: u8) -> i32
-    ensures { result ≡ neg_ℤ (pos n) }
+// The state in the memory, for a call that takes `size` bytes and needs `needed` bytes of output, where it is lent `room` of them: 1 and
+// 2 come before 21.
+fn lent_state(
+    memory: &[u8],
+    bytes: &[u8],
+    size: usize,
+    room: usize,
+    needed: usize,
+) -> Result<State, Refusal>
+    ensures { answered result ≡ outcome (first_fault (check 1 (not (eqb (length bytes.now) size)) ∷ check 2 (ltb room needed) ∷ check 21 (not (is_image memory.now)) ∷ [])) (state_in memory.now) }
 {
-    0 - (n as i32)
+    if bytes.len() != size {
+        return Err(Refusal::InputLength);
+    }
+    if room < needed {
+        return Err(Refusal::OutputRoom);
+    }
+    image::load(memory)
 }
 
-fn number(answer: Answer) -> i32
+fn minus(refusal: Refusal) -> i32
+    ensures { result ≡ neg_ℤ (pos (number_of refusal)) }
+{
+    -i32::from(u8::from(refusal))
+}
+
+fn number(answer: Result<usize, Refusal>) -> i32
     requires { given_count answer ≤ 50 }
     ensures { result ≡ answer_number (answered answer) }
 {
     match answer {
-        Answer::Given(n) => n as i32,
-        Answer::Refused(n) => minus(n),
+        Ok(count) => count as i32,
+        Err(refusal) => minus(refusal),
     }
 }
 
@@ -125,14 +119,8 @@ fn finish(called: Called, memory: &mut [u8]) -> i32
     requires { given_count called.answer ≤ 50 }
     ensures { (result ≡ answer_number (answered called.answer)) × (memory.new ≡ image_kept (answered called.answer) called.engine.state memory.old) }
 {
-    let answer = called.answer;
-    match answer {
-        Answer::Refused(n) => minus(n),
-        Answer::Given(n) => {
-            let next = called.engine;
-            let bytes = image::save(next.state);
-            wire::copy_at(memory, 0, &bytes);
-            n as i32
-        }
+    if called.answer.is_ok() {
+        wire::copy_at(memory, 0, &image::save(called.engine.state));
     }
+    number(called.answer)
 }

@@ -1,10 +1,9 @@
 pub mod RunsLoop
-pub mod StateTaken
-pub mod StateSeen
-pub mod Squares
 pub mod Decided
 pub mod HighestFound
 pub mod StepFits
+pub mod Written
+pub mod RecordSamples
 pub mod SteadyStep
 pub mod Running
 pub mod SteadyStretch

@@ -1,4 +1,4 @@
 pub mod Fits
 pub mod Steady
-pub mod Turns
+pub mod Runs
 pub mod Document

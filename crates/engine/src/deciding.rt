@@ -1,246 +1,230 @@
 // What is given at a tick: the three rules, with the unit's settings.
-ghost use Rattle.std.specs.Prelude.{◌≡◌, ◌≤◌, T, pos, nat_abs, not};
-ghost use Rattle.sample.specs.Sample.{beyond};
-ghost use Rattle.history.specs.Rules.{unit_settings, one, fulfilled, cycle_triggers, crash_triggers, highest, quality_of, stationary_since, report_of, cancel_of, cancel_standing, squared, distance_exceeded, driven_off, hazard_off, cancel_due, update_due, raise, keep, decide};
-ghost use Rattle.engine.specs.Fits.{MessageFits, ViewFits};
+ghost use Rattle.std.specs.Prelude.{◌≡◌, ◌≤◌, ◌-◌, ◌^◌, pos, min};
+ghost use Rattle.std.specs.List.{find};
+ghost use Rattle.warnings.specs.Warnings.{by_rank};
+ghost use Rattle.history.specs.Rules.{unit_settings, fulfilled, cycle_triggers, crash_triggers, triggers, overrules, quality_of, stationary_since, report_of, cancel_of, squared, distance_exceeded, driven_off, hazard_off, cancel_due, update_due, raise, keep, decide};
+ghost use Rattle.engine.specs.Fits.{ViewFits};
 
 use crate::taking::{rank, standing_rank};
-use history::{Cycle, Decision, Notice, View};
+use history::{Cycle, Decision, View};
 use message::Message;
 use sample::Position;
-use warnings::{BY_RANK, CANCEL, NEW, POST_CRASH, UPDATE, WARNINGS};
+use warnings::{BROKEN_DOWN, BY_RANK, CANCEL, NEW, POST_CRASH, STOPPED, UPDATE};
 
-fn one(b: bool) -> u32
-    ensures { (result ≡ one b) × (result ≤ 1) }
-{
-    if b { 1 } else { 0 }
-}
+const SILENT: Decision = Decision {
+    cancel: None,
+    report: None,
+};
 
+#[tactic(auto, unfolding(history::specs::Rules::fulfilled))]
 fn fulfilled(c: Cycle) -> u32
     ensures { (result ≡ fulfilled c) × (result ≤ 4) }
 {
-    one(c.park) + one(c.idle) + one(c.brake) + one(c.belt)
+    u32::from(c.marks.park)
+        + u32::from(c.marks.idle)
+        + u32::from(c.marks.brake)
+        + u32::from(c.marks.belt)
 }
 
+// A cycle of n ticks has i-a = n-1, so that (i-a) + 100k is at least 300 exactly if n + 100k is above it.
+#[tactic(auto, unfolding(history::specs::Rules::cycle_triggers))]
 fn cycle_triggers(c: Cycle) -> bool
-    requires { c.ticks ≤ 10000000 }
     ensures { result ≡ cycle_triggers unit_settings c }
 {
-    if c.ticks < 1 {
-        return false;
-    }
-    (300 <= c.ticks - 1 + 100 * fulfilled(c)) | c.expiring
+    (0 < c.ticks) & ((300 < c.ticks.saturating_add(100 * fulfilled(c))) | c.marks.expiring)
 }
 
-fn crash_triggers(v: View) -> bool
-    ensures { result ≡ crash_triggers v }
-{
-    (v.recent == 3) | ((0 < v.recent) & (0 < v.stationary))
-}
-
-const COUNT: usize = WARNINGS as usize;
-
-// The highest warning that overrules the standing one, 0 for none.
-fn highest(v: View) -> u8
-    requires { ViewFits v }
-    ensures { result ≡ highest unit_settings v }
-{
-    let standing = v.standing;
-    let stoppedcycle = v.stoppedcycle;
-    let brokendowncycle = v.brokendowncycle;
-    let below = standing_rank(standing);
-    let triggered = [
-        false,
-        cycle_triggers(stoppedcycle),
-        cycle_triggers(brokendowncycle),
-        crash_triggers(v),
-    ];
-    let mut i = 0;
-    while i < COUNT {
-        let warning = BY_RANK[i];
-        let at = warning as usize;
-        if triggered[at] & (below < rank(warning)) {
-            return warning;
-        }
-        i += 1;
-    }
-    0
-}
-
-fn quality_of(v: View, warning: u8, g: u8) -> u8
-    ensures { result ≡ quality_of v warning g }
-{
-    if warning == POST_CRASH {
-        return g;
-    }
-    if v.expiring {
-        return 3;
-    }
-    if v.shortening { 2 } else { 1 }
-}
-
+#[tactic(auto, unfolding(history::specs::Rules::stationary_since))]
 fn stationary_since(ticks: u32) -> u8
     ensures { result ≡ stationary_since ticks }
 {
-    if ticks < 1 {
-        return 0;
-    }
-    let minutes = (ticks - 1) / 600;
-    if minutes < 1 {
-        return 0;
-    }
-    if minutes < 2 {
-        return 1;
-    }
-    if minutes < 15 { 2 } else { 3 }
-}
-
-fn report_of(kind: u8, warning: u8, event: u32, g: u8, v: View) -> Message
-    ensures { result ≡ report_of kind warning event g v }
-{
-    let x = v.sample;
-    let position = x.position;
-    let w = x.switches_on();
-    Message {
-        kind,
-        warning,
-        quality: quality_of(v, warning, g),
-        roadtype: warnings::road_type_of(x.road),
-        since: stationary_since(v.stationary),
-        event,
-        detection: v.tick,
-        reference: v.tick,
-        position,
-        heading: x.heading,
-        validity: warnings::validity_of(warning, w.ignition),
+    match ticks.saturating_sub(1) / 600 {
+        0 => 0,
+        1 => 1,
+        2..=14 => 2,
+        _ => 3,
     }
 }
 
+#[tactic(auto, unfolding(history::specs::Rules::cancel_of))]
 fn cancel_of(tick: u32, m: Message) -> Message
     ensures { result ≡ cancel_of tick m }
 {
-    let position = m.position;
     Message {
         kind: CANCEL,
-        warning: m.warning,
-        quality: m.quality,
-        roadtype: m.roadtype,
-        since: m.since,
-        event: m.event,
-        detection: m.detection,
         reference: tick,
-        position,
-        heading: m.heading,
-        validity: m.validity,
+        ..m
     }
 }
 
-fn cancel_standing(tick: u32, standing: Notice) -> Notice
-    ensures { result ≡ cancel_standing tick standing }
-{
-    match standing {
-        Notice::Nothing => Notice::Nothing,
-        Notice::Sent(m) => Notice::Sent(cancel_of(tick, m)),
-    }
-}
-
-// The square of the difference of two coordinates.
+// The square of the difference of two coordinates, or the greatest number where the square is above it. The difference always fits.
+#[tactic(auto, unfolding(history::specs::Rules::squared))]
 fn squared(a: i32, b: i32) -> i64
-    requires { (nat_abs a ≤ 1000000) × (nat_abs b ≤ 1000000) }
-    ensures { result ≡ pos (squared a b) }
+    ensures { result ≡ pos (min (squared a b) (2 ^ 63 - 1)) }
 {
-    let d = a as i64 - b as i64;
-    d * d
+    let d = i64::from(a) - i64::from(b);
+    d.saturating_mul(d)
 }
 
+// A square or a sum held at the greatest number is above the bound as well.
+#[tactic(auto, unfolding(history::specs::Rules::distance_exceeded))]
 fn distance_exceeded(p: Position, q: Position) -> bool
-    requires { T (not (beyond p)) × T (not (beyond q)) }
     ensures { result ≡ distance_exceeded p q }
 {
-    25000000 < squared(p.east, q.east) + squared(p.north, q.north)
+    25000000 < squared(p.east, q.east).saturating_add(squared(p.north, q.north))
 }
 
-fn driven_off(v: View, m: Message) -> bool
-    requires { ViewFits v }
-    ensures { result ≡ driven_off v m }
-{
-    let row = warnings::row_of(m.warning);
-    (row.delay < v.moving) & (v.started + row.delay <= v.tick)
+// What is looked at, with room for what the rules add to its numbers.
+#[derive(Clone, Copy)]
+pub(crate) struct Seen {
+    pub view: View,
+    ghost fits: { ViewFits view },
 }
 
-fn hazard_off(v: View, m: Message) -> bool
-    ensures { result ≡ hazard_off v m }
-{
-    let x = v.sample;
-    let w = x.switches_on();
-    !(m.warning == POST_CRASH) & !w.hazard
-}
-
-fn cancel_due(v: View, m: Message) -> bool
-    requires { ViewFits v × MessageFits m }
-    ensures { result ≡ cancel_due v m }
-{
-    let x = v.sample;
-    let p = x.position;
-    let q = m.position;
-    driven_off(v, m) | hazard_off(v, m) | distance_exceeded(p, q)
-}
-
-fn update_due(v: View, m: Message) -> bool
-    requires { MessageFits m }
-    ensures { result ≡ update_due v m }
-{
-    let row = warnings::row_of(m.warning);
-    (m.reference + row.period <= v.tick) | v.switchedoff
-}
-
-fn raise(v: View, warning: u8) -> Decision
-    requires { ViewFits v }
-    ensures { result ≡ raise v warning }
-{
-    let standing = v.standing;
-    Decision {
-        cancel: cancel_standing(v.tick, standing),
-        report: Notice::Sent(report_of(NEW, warning, v.events + 1, v.recent, v)),
+impl Seen {
+    #[tactic(auto, unfolding(history::specs::Rules::crash_triggers))]
+    fn crash_triggers(self) -> bool
+        ensures { result ≡ crash_triggers self.view }
+    {
+        (self.view.recent == 3) | ((0 < self.view.recent) & (0 < self.view.stationary))
     }
-}
 
-fn keep(v: View, standing: Notice) -> Decision
-    requires { ViewFits v × (standing ≡ v.standing) }
-    ensures { result ≡ keep v standing }
-{
-    let Notice::Sent(m) = standing else {
-        return Decision {
-            cancel: Notice::Nothing,
-            report: Notice::Nothing,
+    #[tactic(auto, unfolding(history::specs::Rules::triggers))]
+    fn triggers(self, warning: u8) -> bool
+        ensures { result ≡ triggers unit_settings self.view warning }
+    {
+        match warning {
+            STOPPED => cycle_triggers(self.view.stoppedcycle),
+            BROKEN_DOWN => cycle_triggers(self.view.brokendowncycle),
+            POST_CRASH => self.crash_triggers(),
+            _ => false,
+        }
+    }
+
+    #[tactic(auto, unfolding(history::specs::Rules::overrules))]
+    fn overrules(self, warning: u8) -> bool
+        ensures { result ≡ overrules unit_settings self.view warning }
+    {
+        self.triggers(warning) & (standing_rank(self.view.standing) < rank(warning))
+    }
+
+    // The highest warning that overrules the standing one.
+    fn highest(self) -> Option<u8>
+        ensures { result ≡ find (overrules unit_settings self.view) by_rank }
+    {
+        BY_RANK
+            .iter()
+            .copied()
+            .find(|warning| self.overrules(*warning))
+    }
+
+    #[tactic(auto, unfolding(history::specs::Rules::quality_of))]
+    fn quality_of(self, warning: u8, g: u8) -> u8
+        ensures { result ≡ quality_of self.view warning g }
+    {
+        if warning == POST_CRASH {
+            return g;
+        }
+        if self.view.expiring {
+            return 3;
+        }
+        if self.view.shortening { 2 } else { 1 }
+    }
+
+    #[tactic(auto, unfolding(history::specs::Rules::report_of))]
+    fn report_of(self, kind: u8, warning: u8, event: u32, g: u8) -> Message
+        ensures { result ≡ report_of kind warning event g self.view }
+    {
+        let x = self.view.sample;
+        Message {
+            kind,
+            warning,
+            quality: self.quality_of(warning, g),
+            roadtype: warnings::road_type_of(x.road),
+            since: stationary_since(self.view.stationary),
+            event,
+            detection: self.view.tick,
+            reference: self.view.tick,
+            position: x.position,
+            heading: x.heading,
+            validity: warnings::validity_of(warning, x.switches_on().ignition),
+        }
+    }
+
+    #[tactic(auto, using(crate::proofs::Decided::delay_small), unfolding(history::specs::Rules::driven_off))]
+    fn driven_off(self, m: Message) -> bool
+        ensures { result ≡ driven_off self.view m }
+    {
+        let delay = warnings::row_of(m.warning).delay;
+        (delay < self.view.moving) & (self.view.started + delay <= self.view.tick)
+    }
+
+    #[tactic(auto, unfolding(history::specs::Rules::hazard_off))]
+    fn hazard_off(self, m: Message) -> bool
+        ensures { result ≡ hazard_off self.view m }
+    {
+        (m.warning != POST_CRASH) & !self.view.sample.switches_on().hazard
+    }
+
+    #[tactic(auto, unfolding(history::specs::Rules::cancel_due))]
+    fn cancel_due(self, m: Message) -> bool
+        ensures { result ≡ cancel_due self.view m }
+    {
+        self.driven_off(m)
+            | self.hazard_off(m)
+            | distance_exceeded(self.view.sample.position, m.position)
+    }
+
+    #[tactic(auto, using(crate::proofs::Decided::period_small), unfolding(history::specs::Rules::update_due))]
+    fn update_due(self, m: Message) -> bool
+        requires { m.reference ≤ self.view.tick }
+        ensures { result ≡ update_due self.view m }
+    {
+        let period = warnings::row_of(m.warning).period;
+        (m.reference + period <= self.view.tick) | self.view.switchedoff
+    }
+
+    #[tactic(auto, unfolding(history::specs::Rules::raise, history::specs::Rules::cancel_standing))]
+    fn raise(self, warning: u8) -> Decision
+        ensures { result ≡ raise self.view warning }
+    {
+        let v = self.view;
+        Decision {
+            cancel: v.standing.map(|m| cancel_of(v.tick, m)),
+            report: Some(self.report_of(NEW, warning, v.events + 1, v.recent)),
+        }
+    }
+
+    #[tactic(auto, unfolding(history::specs::Rules::keep, history::specs::Rules::cancel_standing))]
+    fn keep(self) -> Decision
+        ensures { result ≡ keep self.view self.view.standing }
+    {
+        let v = self.view;
+        let Some(m) = v.standing else {
+            return SILENT;
         };
-    };
-    if cancel_due(v, m) {
-        return Decision {
-            cancel: cancel_standing(v.tick, standing),
-            report: Notice::Nothing,
-        };
+        if self.cancel_due(m) {
+            return Decision {
+                cancel: Some(cancel_of(v.tick, m)),
+                ..SILENT
+            };
+        }
+        if self.update_due(m) {
+            return Decision {
+                report: Some(self.report_of(UPDATE, m.warning, v.events, v.kept)),
+                ..SILENT
+            };
+        }
+        SILENT
     }
-    if update_due(v, m) {
-        return Decision {
-            cancel: Notice::Nothing,
-            report: Notice::Sent(report_of(UPDATE, m.warning, v.events, v.kept, v)),
-        };
-    }
-    Decision {
-        cancel: Notice::Nothing,
-        report: Notice::Nothing,
-    }
-}
 
-pub(crate) fn decide(v: View) -> Decision
-    requires { ViewFits v }
-    ensures { result ≡ decide unit_settings v }
-{
-    let warning = highest(v);
-    if warning == 0 {
-        let standing = v.standing;
-        return keep(v, standing);
+    #[tactic(auto, using(crate::proofs::HighestFound::decided))]
+    pub(crate) fn decide(self) -> Decision
+        ensures { result ≡ decide unit_settings self.view }
+    {
+        match self.highest() {
+            Some(warning) => self.raise(warning),
+            None => self.keep(),
+        }
     }
-    raise(v, warning)
 }

@@ -1,73 +1,51 @@
 // The state with one more sample, before anything is given at its tick.
-ghost use Rattle.std.specs.Prelude.{◌≡◌, cond, ◌<◌, ◌≤◌};
-ghost use Rattle.sample.specs.Sample.{switches_of, happenings_of};
+ghost use Rattle.std.specs.Prelude.{◌≡◌, ◌≤◌};
 ghost use Rattle.history.specs.Rules.{rank, standing_rank};
-ghost use Rattle.history.specs.Ranges.{Within};
-ghost use Rattle.history.specs.History.{is_still};
-ghost use Rattle.history.specs.Runs.{facts_of, go_on, runs_after};
-ghost use Rattle.history.specs.State.{mark, switched_off, conditions_at, cycle_after, goes_on, with_sample};
-ghost use Rattle.engine.specs.Fits.{CanStep};
+ghost use Rattle.history.specs.History.{is_still, precondition};
+ghost use Rattle.history.specs.Runs.{facts_of, runs_after};
+ghost use Rattle.history.specs.State.{switched_off, conditions_at, cycle_after, goes_on, with_sample};
 
+use crate::bounded::Bounded;
 use filter::Filter;
 use history::{
-    BELT_OFF, BONNET, BOOT, BRAKE, Conditions, Cycle, DOOR, IDLE, IGNITION_OFF, Notice, PARK, RUNS,
-    State,
+    BELT_OFF, BONNET, BOOT, BRAKE, Conditions, Cycle, DOOR, IDLE, IGNITION_OFF, NO_CYCLE, PARK,
+    RUNS, State,
 };
-use sample::{Happenings, Sample, Switches};
+use message::Message;
+use sample::Sample;
 use warnings::{BROKEN_DOWN, STOPPED};
 
-fn go_on(b: bool, n: u32) -> u32
-    requires { n ≤ 10000000 }
-    ensures { result ≡ go_on b n }
+// Which of the facts whose runs are kept are true of the sample, each at the place of its run.
+#[tactic(auto, unfolding(history::specs::Runs::facts, history::specs::Runs::facts_of))]
+fn facts_of(still: bool, x: Sample) -> [bool; RUNS]
+    ensures { result ≡ facts_of still x }
 {
-    if b { n + 1 } else { 0 }
-}
-
-fn mark(goes_on: bool, now: bool, before: bool) -> bool
-    ensures { result ≡ mark goes_on now before }
-{
-    if goes_on { now | before } else { false }
-}
-
-// Which of the facts whose runs are kept are true of the sample, each at the place of its run. That these are the sample's switches
-// and happenings is asked for behind the answer, so that a fact more changes this list and no proof.
-fn facts_by(still: bool, x: Sample, w: Switches, h: Happenings) -> [bool; RUNS]
-    ensures { w ≡ switches_of x → h ≡ happenings_of x → result ≡ facts_of still x }
-{
+    let on = x.switches_on();
+    let now = x.happenings_now();
     [
         still,
         !still,
         x.gear == 1,
         x.gear == 2,
-        w.brake,
-        !w.belt,
-        !w.ignition,
-        w.door,
-        w.boot,
-        w.bonnet,
-        !h.ecall,
-        !(h.low | h.pedestrian),
-        !h.high,
+        on.brake,
+        !on.belt,
+        !on.ignition,
+        on.door,
+        on.boot,
+        on.bonnet,
+        !now.ecall,
+        !(now.low | now.pedestrian),
+        !now.high,
     ]
 }
 
-fn facts_of(still: bool, x: Sample) -> [bool; RUNS]
-    ensures { result ≡ facts_of still x }
+// A run whose fact is true goes on by a tick, and any other ends.
+fn runs_after(facts: [bool; RUNS], s: Bounded) -> [u32; RUNS]
+    ensures { result ≡ runs_after facts s.state.runs }
 {
-    let w = x.switches_on();
-    let h = x.happenings_now();
-    facts_by(still, x, w, h)
-}
-
-fn runs_after(facts: [bool; RUNS], old: [u32; RUNS]) -> [u32; RUNS]
-    requires { Within 10000000 old }
-    ensures { result ≡ runs_after facts old }
-{
-    let mut runs = old;
-    let mut i = 0;
-    while i < RUNS {
-        runs[i] = go_on(facts[i], runs[i]);
-        i += 1;
+    let mut runs = s.state.runs;
+    for (i, run) in runs.iter_mut().enumerate() {
+        *run = if facts[i] { *run + 1 } else { 0 };
     }
     runs
 }
@@ -78,6 +56,7 @@ fn switched_off(i: u32, ticks: u32) -> bool
     (30 < ticks) & (ticks <= i)
 }
 
+#[tactic(auto, unfolding(history::specs::State::conditions_at))]
 pub(crate) fn conditions_at(i: u32, r: [u32; RUNS]) -> Conditions
     ensures { result ≡ conditions_at i r }
 {
@@ -93,85 +72,87 @@ pub(crate) fn conditions_at(i: u32, r: [u32; RUNS]) -> Conditions
     }
 }
 
+#[tactic(auto, unfolding(history::specs::State::cycle_after))]
 fn cycle_after(goes_on: bool, now: Conditions, c: Cycle) -> Cycle
     requires { c.ticks ≤ 10000000 }
     ensures { result ≡ cycle_after goes_on now c }
 {
+    if !goes_on {
+        return NO_CYCLE;
+    }
     Cycle {
-        ticks: go_on(goes_on, c.ticks),
-        park: mark(goes_on, now.park, c.park),
-        idle: mark(goes_on, now.idle, c.idle),
-        brake: mark(goes_on, now.brake, c.brake),
-        belt: mark(goes_on, now.belt, c.belt),
-        expiring: mark(goes_on, now.expiring, c.expiring),
+        ticks: c.ticks + 1,
+        marks: Conditions {
+            park: now.park | c.marks.park,
+            idle: now.idle | c.marks.idle,
+            brake: now.brake | c.marks.brake,
+            belt: now.belt | c.marks.belt,
+            expiring: now.expiring | c.marks.expiring,
+        },
     }
 }
 
+#[tactic(auto, unfolding(history::specs::Rules::rank))]
 pub(crate) fn rank(warning: u8) -> u8
     ensures { result ≡ rank warning }
 {
-    let row = warnings::row_of(warning);
-    row.rank
+    warnings::row_of(warning).rank
 }
 
-pub(crate) fn standing_rank(n: Notice) -> u8
-    ensures { result ≡ standing_rank n }
+#[tactic(auto, unfolding(history::specs::Rules::standing_rank))]
+pub(crate) fn standing_rank(standing: Option<Message>) -> u8
+    ensures { result ≡ standing_rank standing }
 {
-    match n {
-        Notice::Nothing => 0,
-        Notice::Sent(m) => rank(m.warning),
-    }
+    standing.map_or(0, |m| rank(m.warning))
 }
 
 // Whether the vehicle is still, by the filter with the sample and the sample's speed.
+#[tactic(auto, unfolding(history::specs::History::is_still))]
 pub(crate) fn is_still(f: Filter, speed: u16) -> bool
     ensures { result ≡ is_still f speed }
 {
     sample::has_reading(speed) & f.at_most_8()
 }
 
-fn pick(b: bool, x: bool, y: bool) -> bool
-    ensures { result ≡ cond b x y }
+// Whether the sample's switches are as the cycle of the warning needs them.
+#[tactic(auto, unfolding(history::specs::History::precondition))]
+fn precondition(warning: u8, x: Sample) -> bool
+    ensures { result ≡ precondition warning x }
 {
-    if b { x } else { y }
+    let on = x.switches_on();
+    match warning {
+        STOPPED => on.hazard & !on.breakdown,
+        BROKEN_DOWN => on.hazard & on.breakdown,
+        _ => false,
+    }
 }
 
 // Whether the cycle of the warning goes on, by still and by the rank of what stands.
 fn goes_on(warning: u8, still: bool, x: Sample, standing: u8) -> bool
     ensures { result ≡ goes_on warning still x standing }
 {
-    let w = x.switches_on();
-    let need = pick(
-        warning == STOPPED,
-        !w.breakdown,
-        (warning == BROKEN_DOWN) & w.breakdown,
-    );
-    still & (w.hazard & need) & (standing < rank(warning))
+    still & precondition(warning, x) & (standing < rank(warning))
 }
 
-pub(crate) fn with_sample(s: State, x: Sample) -> State
-    requires { CanStep s x }
-    ensures { result ≡ with_sample s x }
+#[tactic(auto, unfolding(history::specs::State::with_sample))]
+pub(crate) fn with_sample(s: Bounded, x: Sample) -> State
+    ensures { result ≡ with_sample s.state x }
 {
-    let w = x.switches_on();
-    let before = s.filter;
-    let filter = before.next(x.speed);
+    let before = s.state;
+    let filter = before.filter.next(x.speed);
     let still = is_still(filter, x.speed);
-    let old = s.runs;
-    let runs = runs_after(facts_of(still, x), old);
-    let now = conditions_at(s.taken, runs);
-    let log = s.log;
-    let n = log.standing;
-    let standing = standing_rank(n);
-    let c1 = s.stoppedcycle;
-    let c2 = s.brokendowncycle;
+    let runs = runs_after(facts_of(still, x), s);
+    let now = conditions_at(before.taken, runs);
+    let standing = standing_rank(before.log.standing);
+    let stopped_on = goes_on(STOPPED, still, x, standing);
+    let broken_down_on = goes_on(BROKEN_DOWN, still, x, standing);
     State {
-        taken: s.taken + 1,
+        taken: before.taken + 1,
         filter,
-        ignition: w.ignition,
+        ignition: x.switches_on().ignition,
         runs,
-        stoppedcycle: cycle_after(goes_on(STOPPED, still, x, standing), now, c1),
-        brokendowncycle: cycle_after(goes_on(BROKEN_DOWN, still, x, standing), now, c2),
-        log,
+        stoppedcycle: cycle_after(stopped_on, now, before.stoppedcycle),
+        brokendowncycle: cycle_after(broken_down_on, now, before.brokendowncycle),
+        ..before
     }
 }

@@ -1,25 +1,26 @@
 // What is looked at to decide, from the state before the sample and the state with it.
-ghost use Rattle.std.specs.Prelude.{◌≡◌, ◌-◌, ◌≤◌, max};
-ghost use Rattle.history.specs.State.{quality_from, seen, with_sample};
-ghost use Rattle.history.specs.Ranges.{Within};
-ghost use Rattle.engine.specs.Fits.{CanStep};
+ghost use Rattle.std.specs.Prelude.{◌≡◌, ◌-◌, max};
+ghost use Rattle.history.specs.State.{quality_from, seen};
 
+use crate::bounded::Bounded;
+use crate::deciding::Seen;
 use crate::taking::conditions_at;
 use history::{MOVING, NO_ECALL, NO_HIGH, NO_LOW, RUNS, STILL, State, View};
 use sample::Sample;
 
-// The highest quality of the happenings from tick `j` on, when `n` samples were taken.
+// The highest quality of the happenings from tick `j` on, when `n` samples were taken. The last happening of a kind, if any, came at
+// the tick before the run without one.
+#[tactic(auto, unfolding(history::specs::State::quality_from))]
 fn quality_from(j: u32, n: u32, r: [u32; RUNS]) -> u8
-    requires { (j ≤ 10000000) × Within 10000000 r }
     ensures { result ≡ quality_from j n r }
 {
-    if j + r[NO_HIGH] < n {
+    if j < n.saturating_sub(r[NO_HIGH]) {
         return 3;
     }
-    if j + r[NO_LOW] < n {
+    if j < n.saturating_sub(r[NO_LOW]) {
         return 2;
     }
-    if j + r[NO_ECALL] < n {
+    if j < n.saturating_sub(r[NO_ECALL]) {
         return 1;
     }
     0
@@ -29,39 +30,33 @@ fn quality_from(j: u32, n: u32, r: [u32; RUNS]) -> u8
 pub(crate) fn counted_from(i: u32, lastcancel: u32) -> u32
     ensures { result ≡ max (i - 150) lastcancel }
 {
-    let first = if 150 < i { i - 150 } else { 0 };
-    if first < lastcancel {
-        lastcancel
-    } else {
-        first
-    }
+    i.saturating_sub(150).max(lastcancel)
 }
 
-pub(crate) fn seen(s: State, t: State, x: Sample) -> View
-    requires { CanStep s x × (t ≡ with_sample s x) }
-    ensures { result ≡ seen s t x }
+#[tactic(auto, unfolding(history::specs::State::seen))]
+pub(crate) fn seen(s: Bounded, t: State, x: Sample) -> Seen
+    ensures { result.view ≡ seen s.state t x }
 {
-    let runs = t.runs;
-    let now = conditions_at(s.taken, runs);
-    let log = s.log;
-    let standing = log.standing;
-    let stoppedcycle = t.stoppedcycle;
-    let brokendowncycle = t.brokendowncycle;
-    let from = counted_from(s.taken, log.lastcancel);
-    View {
-        tick: s.taken,
-        sample: x,
-        standing,
-        started: log.started,
-        events: log.events,
-        stationary: runs[STILL],
-        moving: runs[MOVING],
-        switchedoff: !t.ignition & s.ignition,
-        shortening: now.park | now.idle | now.brake | now.belt,
-        expiring: now.expiring,
-        stoppedcycle,
-        brokendowncycle,
-        recent: quality_from(from, t.taken, runs),
-        kept: quality_from(log.counted, t.taken, runs),
+    let before = s.state;
+    let log = before.log;
+    let now = conditions_at(before.taken, t.runs);
+    let from = counted_from(before.taken, log.lastcancel);
+    Seen {
+        view: View {
+            tick: before.taken,
+            sample: x,
+            standing: log.standing,
+            started: log.started,
+            events: log.events,
+            stationary: t.runs[STILL],
+            moving: t.runs[MOVING],
+            switchedoff: !t.ignition & before.ignition,
+            shortening: now.park | now.idle | now.brake | now.belt,
+            expiring: now.expiring,
+            stoppedcycle: t.stoppedcycle,
+            brokendowncycle: t.brokendowncycle,
+            recent: quality_from(from, t.taken, t.runs),
+            kept: quality_from(log.counted, t.taken, t.runs),
+        },
     }
 }

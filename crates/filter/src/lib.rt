@@ -11,7 +11,7 @@ use sample::NO_READING;
 // The bits of the value at which readings of 0 let the filter rest: twice the smallest number.
 const REST: u32 = 2;
 
-// Without a reading yet, or running with its value.
+// Without a reading yet, or running with its value. The project names this form, so it is no Option.
 #[derive(Clone, Copy)]
 pub enum Filter {
     Empty,
@@ -66,9 +66,9 @@ fn blended(f: f32, reading: u16) -> f32
     f + (x - f) * 0.25
 }
 
-// The bits of a value. A NaN, which alone differs from itself, gets one pattern for all.
+// The bits of a value. All NaNs get one pattern.
 pub fn bits_of(f: f32) -> u32
     ensures { result ≡ to_bits binary32 f }
 {
-    if f != f { 2143289344 } else { f32::to_bits(f) }
+    if f.is_nan() { 2143289344 } else { f.to_bits() }
 }

@@ -9,11 +9,10 @@ use Prim.Native.Nat.{ℕ, ◌+◌}
 use native.Mathlib.Omega.{arith}
 use lib.Dec.{eqb}
 use borrow.Author.Tests.{eq-eqb, ne_eqb}
+use Rattle.std.proofs.Common.{Option, Some, None}
 use Rattle.warnings.specs.Warnings.{new, update}
 use Rattle.sample.specs.declared.Sample.{Sample}
 use Rattle.message.specs.declared.Message.{Message}
-use Rattle.history.specs.declared.Notice.{Notice}
-use Rattle.history.specs.declared.Notice.TheVariants.{Nothing, Sent}
 use Rattle.history.specs.declared.View.{View}
 use Rattle.history.specs.Rules.{Settings, highest, report_of, cancel_of, cancel_standing, cancel_due, update_due, raise, keep, decide, noticed, given_by}
 use Rattle.history.specs.History.{Past, is_new, messages, standing_after, standing, events, view_of, given_at, tick_of, after}
@@ -33,9 +32,9 @@ pub record Known (h : Past) (p : Message) : Type 0 where
   pub its_new : ItsNew p.event (messages h) n older
   pub warning : p.warning ≡ n.warning
 
-abbrev pub Found : Past → Notice → Type 0
-Found h Nothing = (m : Message) → Stands m h → ⊥
-Found h (Sent p) = Known h p
+abbrev pub Found : Past → Option Message → Type 0
+Found h None = (m : Message) → Stands m h → ⊥
+Found h (Some p) = Known h p
 
 -- ---- one tick
 
@@ -48,7 +47,7 @@ module _ (x : Sample) (past : Past) where
   After given = Found (tick_with x given ∷ past) (standing_after (standing past) given)
 
   -- nothing stood
-  none_stays : standing past ≡ Nothing → Found past Nothing → After []
+  none_stays : standing past ≡ None → Found past None → After []
   unfolding standing_after
   none_stays e f = rw e (λ m s. elim s.0 [ inl b ↦ Memᴰ.not-nil b.given | inr r ↦ f m r ])
 
@@ -56,7 +55,7 @@ module _ (x : Sample) (past : Past) where
   no_new : {q : Message} → is_new q ≡ false → (m : Message) → BeginsAt m (tick_with x (q ∷ [])) → ⊥
   no_new h m b = elim (Memᴰ.cases_cons b.given) [ inl r ↦ false≢true (sym h ∙ rw r at b.is_a_new) | inr j ↦ Memᴰ.not-nil j ]
 
-  module _ (p : Message) (e : standing past ≡ Sent p) (count : p.event ≡ events (messages past)) (k : Known past p) where
+  module _ (p : Message) (e : standing past ≡ Some p) (count : p.event ≡ events (messages past)) (k : Known past p) where
     -- at a tick at which the warning ends, none stands on
     stood : (given : List Message) → ends_at k.n (tick_with x given) past ≡ true
         → (m : Message) → Stands m past → ends_at m (tick_with x given) past ≡ false → ⊥
@@ -67,7 +66,7 @@ module _ (x : Sample) (past : Past) where
     own = eq-eqb p.event k.n.event (sym k.its_new.own)
 
     -- rule 2
-    ends : After (noticed (cancel_standing v.tick (Sent p)) ++ [])
+    ends : After (noticed (cancel_standing v.tick (Some p)) ++ [])
     unfolding noticed cancel_standing cancel_of standing_after ends_at among
     ends m s = elim s.0 [ inl b ↦ no_new refl m b | inr r ↦ stood (cancel_of v.tick p ∷ []) (rw own) m r s.1 ]
 
@@ -100,10 +99,10 @@ module _ (x : Sample) (past : Past) where
           warning = k.warning;
         }
 
-  keeps : (n : Notice) → standing past ≡ n → Agrees (messages past) n → Found past n → After (given_by (keep v n))
+  keeps : (n : Option Message) → standing past ≡ n → Agrees (messages past) n → Found past n → After (given_by (keep v n))
   unfolding keep given_by noticed
-  keeps Nothing e a f = none_stays e f
-  keeps (Sent p) e a k =
+  keeps None e a f = none_stays e f
+  keeps (Some p) e a k =
       either (λ d. After (given_by d)) (cancel_due v p) (ends p e a.1 k)
       (either (λ d. After (given_by d)) (update_due v p) (updates p e a.1 k) (silent_stays p e a.1 k))
 
@@ -112,7 +111,7 @@ module _ (x : Sample) (past : Past) where
     abbrev a_new : Message
     a_new = report_of new warning (v.events + 1) v.recent v
 
-    raised : (given older : List Message) → reverse_aux given (messages past) ≡ a_new ∷ older → standing_after (standing past) given ≡ Sent a_new
+    raised : (given older : List Message) → reverse_aux given (messages past) ≡ a_new ∷ older → standing_after (standing past) given ≡ Some a_new
         → Memᴰ a_new given → ends_at a_new (tick_with x given) past ≡ false → ((m : Message) → BeginsAt m (tick_with x given) → m ≡ a_new)
         → ((m : Message) → Stands m past → ends_at m (tick_with x given) past ≡ false → ⊥) → After given
     unfolding messages report_of
@@ -125,12 +124,12 @@ module _ (x : Sample) (past : Past) where
       warning = refl;
     })
 
-    raises : (n : Notice) → standing past ≡ n → Agrees (messages past) n → Found past n → After (noticed (cancel_standing v.tick n) ++ (a_new ∷ []))
+    raises : (n : Option Message) → standing past ≡ n → Agrees (messages past) n → Found past n → After (noticed (cancel_standing v.tick n) ++ (a_new ∷ []))
     unfolding noticed cancel_standing cancel_of standing_after ends_at among report_of view_of
-    raises Nothing e a f =
+    raises None e a f =
         raised (a_new ∷ []) (messages past) refl refl (Memᴰ.head refl) refl
         (λ m b. elim (Memᴰ.cases_cons b.given) [ inl q ↦ q | inr j ↦ absurd (Memᴰ.not-nil j) ]) (λ m r l. f m r)
-    raises (Sent p) e a k =
+    raises (Some p) e a k =
         let given = cancel_of v.tick p ∷ a_new ∷ [] in
         let count = a.1 in
         let other = ne_eqb p.event (events (messages past) + 1) (λ q. omega arith) in
@@ -158,25 +157,25 @@ unfolding standing
 found S xs = found_after S [] xs ordered_none (λ m s. s)
 
 -- the rules' short definition finds only what stands
-pub standing_known : (S : Settings) (xs : List Sample) (p : Message) → standing (after S [] xs) ≡ Sent p → Known (after S [] xs) p
+pub standing_known : (S : Settings) (xs : List Sample) (p : Message) → standing (after S [] xs) ≡ Some p → Known (after S [] xs) p
 standing_known S xs p e = rw e at (found S xs)
 
-pub standing_stands : (S : Settings) (xs : List Sample) (p : Message) → standing (after S [] xs) ≡ Sent p
+pub standing_stands : (S : Settings) (xs : List Sample) (p : Message) → standing (after S [] xs) ≡ Some p
     → (n : Message) × Stands n (after S [] xs) × (p.event ≡ n.event) × (p.warning ≡ n.warning)
 standing_stands S xs p e = let k = standing_known S xs p e in (k.n, k.stands, sym k.its_new.own, k.warning)
 
 -- and finds what stands
 stands_known : (S : Settings) (xs : List Sample) (n : Message) → Stands n (after S [] xs)
-    → (p : Message) × (standing (after S [] xs) ≡ Sent p) × (k : Known (after S [] xs) p) × (n ≡ k.n)
+    → (p : Message) × (standing (after S [] xs) ≡ Some p) × (k : Known (after S [] xs) p) × (n ≡ k.n)
 stands_known S xs n s = go (standing (after S [] xs)) refl (found S xs)
   where
-    go : (f : Notice) → standing (after S [] xs) ≡ f → Found (after S [] xs) f
-        → (p : Message) × (standing (after S [] xs) ≡ Sent p) × (k : Known (after S [] xs) p) × (n ≡ k.n)
-    go Nothing e none = absurd (none n s)
-    go (Sent p) e k = (p, e, k, k.only n s)
+    go : (f : Option Message) → standing (after S [] xs) ≡ f → Found (after S [] xs) f
+        → (p : Message) × (standing (after S [] xs) ≡ Some p) × (k : Known (after S [] xs) p) × (n ≡ k.n)
+    go None e none = absurd (none n s)
+    go (Some p) e k = (p, e, k, k.only n s)
 
 pub stands_standing : (S : Settings) (xs : List Sample) (n : Message) → Stands n (after S [] xs)
-    → (p : Message) × (standing (after S [] xs) ≡ Sent p) × (p.event ≡ n.event) × (p.warning ≡ n.warning)
+    → (p : Message) × (standing (after S [] xs) ≡ Some p) × (p.event ≡ n.event) × (p.warning ≡ n.warning)
 stands_standing S xs n s =
     let f = stands_known S xs n s in
     let same = sym f.3 in

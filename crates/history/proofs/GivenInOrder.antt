@@ -5,11 +5,10 @@ use mathlib.Core.Bool.{Bool, true, false, cond, false≢true}
 use mathlib.Core.List.{List, [], ◌∷◌, ◌++◌, reverse_aux, reverse_aux-append}
 use Prim.Native.Nat.{ℕ, ◌+◌}
 use lib.Dec.{eqb}
+use Rattle.std.proofs.Common.{Option, Some, None}
 use Rattle.warnings.specs.Warnings.{new, update, cancel}
 use Rattle.sample.specs.declared.Sample.{Sample}
 use Rattle.message.specs.declared.Message.{Message}
-use Rattle.history.specs.declared.Notice.{Notice}
-use Rattle.history.specs.declared.Notice.TheVariants.{Nothing, Sent}
 use Rattle.history.specs.declared.View.{View}
 use Rattle.history.specs.Rules.{Settings, highest, report_of, cancel_of, cancel_standing, cancel_due, update_due, raise, keep, decide, noticed, given_by}
 use Rattle.history.specs.History.{Past, is_new, is_cancel, messages, standing_after, standing, events, view_of, given_at, tick_of, after, given_during}
@@ -57,16 +56,16 @@ either P true p q = p
 either P false p q = q
 
 -- what stands says how many Cancels are due, and has the event of the newest New: "the count of New messages so far, a New counting itself"
-abbrev pub Agrees : List Message → Notice → Type 0
-Agrees ms Nothing = due ms ≡ 0
-Agrees ms (Sent m) = (due ms ≡ 1) × (m.event ≡ events ms)
+abbrev pub Agrees : List Message → Option Message → Type 0
+Agrees ms None = due ms ≡ 0
+Agrees ms (Some m) = (due ms ≡ 1) × (m.event ≡ events ms)
 
 -- the messages are in order, and n stands after them
-abbrev pub Ordered : List Message → Notice → Type 0
+abbrev pub Ordered : List Message → Option Message → Type 0
 Ordered ms n = InOrder ms × Agrees ms n
 
 -- n stood before the tick
-module _ (v : View) (ms : List Message) (n : Notice) (count : v.events ≡ events ms) (o : Ordered ms n) where
+module _ (v : View) (ms : List Message) (n : Option Message) (count : v.events ≡ events ms) (o : Ordered ms n) where
   abbrev After : List Message → Type 0
   After given = Ordered (reverse_aux given ms) (standing_after n given)
 
@@ -74,22 +73,22 @@ module _ (v : View) (ms : List Message) (n : Notice) (count : v.events ≡ event
   unfolding standing_after
   silent_in_order = o
 
-  keeps_order : (s : Notice) → n ≡ s → After (given_by (keep v s))
+  keeps_order : (s : Option Message) → n ≡ s → After (given_by (keep v s))
   unfolding keep given_by noticed cancel_standing cancel_of report_of standing_after due events
-  keeps_order Nothing e = silent_in_order
-  keeps_order (Sent m) e =
-      let a : Agrees ms (Sent m) = rw e at o.1 in
+  keeps_order None e = silent_in_order
+  keeps_order (Some m) e =
+      let a : Agrees ms (Some m) = rw e at o.1 in
       either (λ d. After (given_by d)) (cancel_due v m) ((a_cancel refl a.0 a.1, o.0), refl)
       (either (λ d. After (given_by d)) (update_due v m) ((an_update_lem refl (sym a.0) count, o.0), (refl, count)) silent_in_order)
 
-  raises_in_order : (warning : ℕ) (s : Notice) → n ≡ s
+  raises_in_order : (warning : ℕ) (s : Option Message) → n ≡ s
       → After (noticed (cancel_standing v.tick s) ++ (report_of new warning (v.events + 1) v.recent v ∷ []))
   unfolding noticed cancel_standing cancel_of report_of standing_after due events
-  raises_in_order warning Nothing e =
+  raises_in_order warning None e =
       let next : v.events + 1 ≡ events ms + 1 = ap (λ k. k + 1) count in
       ((a_new_lem refl (rw e at o.1) next, o.0), (refl, next))
-  raises_in_order warning (Sent m) e =
-      let a : Agrees ms (Sent m) = rw e at o.1 in
+  raises_in_order warning (Some m) e =
+      let a : Agrees ms (Some m) = rw e at o.1 in
       let next : v.events + 1 ≡ events ms + 1 = ap (λ k. k + 1) count in
       ((a_new_lem refl refl next, (a_cancel refl a.0 a.1, o.0)), (refl, next))
 
@@ -117,7 +116,7 @@ pub given_in_order : (S : Settings) (xs : List Sample) → InOrder (messages (af
 given_in_order S xs = (ordered_after S [] xs ordered_none).0
 
 -- what stands has the event of the newest New
-pub standing_event : (S : Settings) (xs : List Sample) (p : Message) → standing (after S [] xs) ≡ Sent p → p.event ≡ events (messages (after S [] xs))
+pub standing_event : (S : Settings) (xs : List Sample) (p : Message) → standing (after S [] xs) ≡ Some p → p.event ≡ events (messages (after S [] xs))
 standing_event S xs p e =
-    let a : Agrees (messages (after S [] xs)) (Sent p) = rw e at (ordered_after S [] xs ordered_none).1 in
+    let a : Agrees (messages (after S [] xs)) (Some p) = rw e at (ordered_after S [] xs ordered_none).1 in
     a.1

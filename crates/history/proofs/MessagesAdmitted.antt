@@ -7,6 +7,7 @@ use Prim.Native.Nat.{ℕ, ◌+◌, ◌≤◌, ◌<◌}
 use native.Mathlib.Omega.{arith}
 use borrow.Author.Tests.{ne_eqb}
 use lib.Dec.{T, eqb}
+use Rattle.std.proofs.Common.{Option, Some, None, IfSome}
 use Rattle.wire.specs.Outcome.{first_fault}
 use Rattle.wire.proofs.Tests.{true_holds}
 use Rattle.warnings.specs.Warnings.{new, update, post_crash, warning_count}
@@ -18,15 +19,13 @@ use Rattle.filter.proofs.StaysInRange.{next_valid}
 use Rattle.message.specs.declared.Message.{Message}
 use Rattle.message.specs.Message.{admits}
 use Rattle.message.proofs.Admitted.{Admitted, admits_it}
-use Rattle.history.specs.declared.Notice.{Notice}
-use Rattle.history.specs.declared.Notice.TheVariants.{Nothing, Sent}
 use Rattle.history.specs.declared.View.{View}
 use Rattle.history.specs.declared.Decision.{Decision}
 use Rattle.history.specs.Rules.{Settings, rank, standing_rank, triggers, highest, report_of, cancel_of, cancel_standing, cancel_due, update_due, silent, raise, keep, decide, noticed, given_by}
 use Rattle.history.specs.History.{Past, present, size, filter_after, messages, standing_after, standing, events, started, last_cancel, counted_from, counted, view_of, given_at, tick_of, after, given_during}
 use Rattle.history.proofs.GivenInOrder.{either}
 use Rattle.history.proofs.HighestInWords.{Overruling, highest_overrules}
-use Rattle.history.proofs.Reached.{tick_with, IfSent, LastReport, Reached, reached_none, quality_at_most_3, still_counted, given_aside, crash_counted}
+use Rattle.history.proofs.Reached.{tick_with, LastReport, Reached, reached_none, quality_at_most_3, still_counted, given_aside, crash_counted}
 use Rattle.history.proofs.ReportAdmitted.{report_admitted, cancel_admitted}
 use Rattle.history.proofs.TickNumbers.{size_after}
 
@@ -57,10 +56,10 @@ module _ (x : Sample) (past : Past) (r : Reached past) (f : Fields x) (few : siz
   unfolding filter_after
   filter_next given = next_valid (filter_after past) x.speed f.speed r.filter_valid
 
-  last_report_stays : (n : Notice) → IfSent (LastReport past) n → IfSent (LastReport (present x ∷ past)) n
+  last_report_stays : (n : Option Message) → IfSome n (LastReport past) → IfSome n (LastReport (present x ∷ past))
   unfolding messages size
-  last_report_stays Nothing s = tt
-  last_report_stays (Sent m) s = record {
+  last_report_stays None s = tt
+  last_report_stays (Some m) s = record {
     admitted = s.admitted;
     no_cancel = s.no_cancel;
     earlier = omega arith;
@@ -91,7 +90,7 @@ module _ (x : Sample) (past : Past) (r : Reached past) (f : Fields x) (few : siz
     cancel_by_now = either (λ (k : ℕ). k ≤ size past) (eqb m.warning post_crash) (omega arith) r.last_cancel_by_now
 
     -- "2. The standing one is cancelled"
-    cancel_fits : Fits (record { cancel = cancel_standing (size past) (Sent m); report = Nothing })
+    cancel_fits : Fits (record { cancel = cancel_standing (size past) (Some m); report = None })
     unfolding given_by noticed messages size cancel_standing cancel_of standing standing_after started counted last_cancel events
     cancel_fits = (
       (cancel_passes, tt),
@@ -119,7 +118,7 @@ module _ (x : Sample) (past : Past) (r : Reached past) (f : Fields x) (few : siz
         f
 
     -- "3. Update"
-    update_fits : Fits (record { cancel = Nothing; report = Sent an_update })
+    update_fits : Fits (record { cancel = None; report = Some an_update })
     unfolding given_by noticed messages size report_of standing standing_after started counted last_cancel events view_of
     update_fits = (
       (admits_it _ update_admitted, tt),
@@ -139,10 +138,10 @@ module _ (x : Sample) (past : Past) (r : Reached past) (f : Fields x) (few : siz
       },
     )
 
-  keep_fits : (n : Notice) → IfSent (LastReport past) n → Fits (keep v n)
+  keep_fits : (n : Option Message) → IfSome n (LastReport past) → Fits (keep v n)
   unfolding keep view_of
-  keep_fits Nothing s = silent_fits
-  keep_fits (Sent m) s = either Fits (cancel_due v m) (cancel_fits m s) (either Fits (update_due v m) (update_fits m s) silent_fits)
+  keep_fits None s = silent_fits
+  keep_fits (Some m) s = either Fits (cancel_due v m) (cancel_fits m s) (either Fits (update_due v m) (update_fits m s) silent_fits)
 
   module _ (warning : ℕ) (low : 1 ≤ warning) (high : warning ≤ warning_count) (happened : warning ≡ 3 → 1 ≤ v.recent) where
     abbrev a_new : Message
@@ -158,7 +157,7 @@ module _ (x : Sample) (past : Past) (r : Reached past) (f : Fields x) (few : siz
         f
 
     -- a New, given after messages that leave the count of News and what 3 counts
-    new_reached : (given before : List Message) → messages (tick_with x given ∷ past) ≡ a_new ∷ before → standing (tick_with x given ∷ past) ≡ Sent a_new
+    new_reached : (given before : List Message) → messages (tick_with x given ∷ past) ≡ a_new ∷ before → standing (tick_with x given ∷ past) ≡ Some a_new
         → events before ≡ events ms → last_cancel before ≤ size past → (warning ≡ 3 → last_cancel before ≡ last_cancel ms)
         → Reached (tick_with x given ∷ past)
     unfolding size report_of started counted counted_from last_cancel events view_of
@@ -178,11 +177,11 @@ module _ (x : Sample) (past : Past) (r : Reached past) (f : Fields x) (few : siz
     }
 
     -- "1. .. Cancel of the standing one, if any, then New of the highest"; one that 3 outranks is not 3, so its Cancel leaves what 3 counts
-    raise_fits : (n : Notice) → IfSent (LastReport past) n → standing_rank n < rank warning
-        → Fits (record { cancel = cancel_standing (size past) n; report = Sent a_new })
+    raise_fits : (n : Option Message) → IfSome n (LastReport past) → standing_rank n < rank warning
+        → Fits (record { cancel = cancel_standing (size past) n; report = Some a_new })
     unfolding given_by noticed messages standing standing_after standing_rank cancel_standing cancel_of report_of last_cancel events
-    raise_fits Nothing s outranked = ((admits_it _ new_admitted, tt), new_reached _ ms refl refl refl r.last_cancel_by_now (λ q. refl))
-    raise_fits (Sent m) s outranked =
+    raise_fits None s outranked = ((admits_it _ new_admitted, tt), new_reached _ ms refl refl refl r.last_cancel_by_now (λ q. refl))
+    raise_fits (Some m) s outranked =
         let not-3 : warning ≡ 3 → m.warning ≡ 3 → ⊥ = λ q e. let z : rank m.warning ≡ rank warning = cc in omega arith in
         ((cancel_passes m s, (admits_it _ new_admitted, tt)), new_reached _ (cancel_of (size past) m ∷ ms) refl refl refl (cancel_by_now m s) (λ q. rw (ne_eqb m.warning post_crash (not-3 q))))
 

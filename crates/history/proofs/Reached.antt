@@ -7,21 +7,15 @@ use Prim.Native.Nat.{ℕ, ◌≤◌, ◌<◌}
 use native.Mathlib.Omega.{arith}
 use borrow.Author.Tests.{ltb-true, eqb-true}
 use lib.Dec.{T, leb, ltb, eqb}
+use Rattle.std.proofs.Common.{IfSome}
 use Rattle.sample.specs.declared.Sample.{Sample}
 use Rattle.filter.specs.Filter.{Valid}
 use Rattle.filter.proofs.StaysInRange.{empty_valid}
 use Rattle.message.specs.declared.Message.{Message}
 use Rattle.message.proofs.Admitted.{Admitted}
-use Rattle.history.specs.declared.Notice.{Notice}
-use Rattle.history.specs.declared.Notice.TheVariants.{Nothing, Sent}
 use Rattle.history.specs.declared.View.{View}
 use Rattle.history.specs.Rules.{crash_triggers}
 use Rattle.history.specs.History.{Tick, Past, present, size, some_from, filter_after, messages, is_cancel, standing, events, started, last_cancel, counted, ecall_pressed, low_severity, high_severity, highest_quality}
-
--- a notice's message, if it has one, has P
-abbrev pub IfSent : (Message → Type 0) → Notice → Type 0
-IfSent P Nothing = Unit {0}
-IfSent P (Sent m) = P m
 
 -- a tick with the sample x, at which these messages were given
 abbrev pub tick_with : Sample → List Message → Tick
@@ -42,7 +36,7 @@ pub record Reached (past : Past) : Type 0 where
   pub counted_by_now : counted (messages past) ≤ size past
   pub last_cancel_by_now : last_cancel (messages past) ≤ size past
   pub events_by_now : events (messages past) ≤ size past
-  pub last_report : IfSent (LastReport past) (standing past)
+  pub last_report : IfSome (standing past) (LastReport past)
 
 -- before tick 0
 pub reached_none : Reached []

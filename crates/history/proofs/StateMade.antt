@@ -4,18 +4,23 @@ use mathlib.Core.Path.{◌≡◌}
 use mathlib.Core.Bool.{Bool}
 use mathlib.Core.List.{List}
 use Prim.Native.Nat.{ℕ}
+use Rattle.std.proofs.Common.{Option}
 use Rattle.filter.specs.declared.Filter.{Filter}
+use Rattle.message.specs.declared.Message.{Message}
+use Rattle.history.specs.declared.Conditions.{Conditions}
 use Rattle.history.specs.declared.Cycle.{Cycle}
 use Rattle.history.specs.declared.Log.{Log}
-use Rattle.history.specs.declared.Notice.{Notice}
 use Rattle.history.specs.declared.State.{State}
 
-pub cycle_made : (c : Cycle) (n : ℕ) (a b d e f : Bool)
-    → n ≡ c.ticks → a ≡ c.park → b ≡ c.idle → d ≡ c.brake → e ≡ c.belt → f ≡ c.expiring
-    → ◌≡◌ {A = Cycle} (record { ticks = n; park = a; idle = b; brake = d; belt = e; expiring = f }) c
-cycle_made c n a b d e f h i j k l m = simp (h, i, j, k, l, m)
+pub marks_made : (c : Conditions) (a b d e f : Bool)
+    → a ≡ c.park → b ≡ c.idle → d ≡ c.brake → e ≡ c.belt → f ≡ c.expiring
+    → ◌≡◌ {A = Conditions} (record { park = a; idle = b; brake = d; belt = e; expiring = f }) c
+marks_made c a b d e f h i j k l = simp (h, i, j, k, l)
 
-pub log_made : (l : Log) (n : Notice) (a b c d : ℕ)
+pub cycle_made : (c : Cycle) (n : ℕ) (m : Conditions) → n ≡ c.ticks → m ≡ c.marks → ◌≡◌ {A = Cycle} (record { ticks = n; marks = m }) c
+cycle_made c n m a b = simp (a, b)
+
+pub log_made : (l : Log) (n : Option Message) (a b c d : ℕ)
     → n ≡ l.standing → a ≡ l.started → b ≡ l.counted → c ≡ l.lastcancel → d ≡ l.events
     → ◌≡◌ {A = Log} (record { standing = n; started = a; counted = b; lastcancel = c; events = d }) l
 log_made l n a b c d e f g h i = simp (e, f, g, h, i)

@@ -8,19 +8,19 @@ use native.Mathlib.Omega.{arith}
 use borrow.Author.Tests.{le-leb}
 use lib.Dec.{T, leb, ltb, lt→ltb}
 use lib.Ieee.Fits.{and_i}
+use Rattle.std.proofs.Common.{Option, Some, None, IfSome}
 use Rattle.wire.proofs.Tests.{holds_true}
 use Rattle.sample.specs.declared.Sample.{Sample}
 use Rattle.filter.specs.Filter.{in_range}
+use Rattle.message.specs.declared.Message.{Message}
 use Rattle.message.specs.Message.{admits}
 use Rattle.message.proofs.Admitted.{admits_it}
-use Rattle.history.specs.declared.Notice.{Notice}
-use Rattle.history.specs.declared.Notice.TheVariants.{Nothing, Sent}
 use Rattle.history.specs.Rules.{Settings}
 use Rattle.history.specs.History.{Past, Fact, size, run, filter_after, stationary, messages, is_cancel, standing, events, started, last_cancel, counted, cycle_of, after}
 use Rattle.history.specs.Runs.{facts, runs_of}
 use Rattle.history.specs.Ranges.{standing_in_range, within, state_in_range}
 use Rattle.history.proofs.StepMatchesHistory.{log_of, state_of}
-use Rattle.history.proofs.Reached.{IfSent, LastReport, Reached}
+use Rattle.history.proofs.Reached.{LastReport, Reached}
 use Rattle.history.proofs.MessagesAdmitted.{AllAccepted, reached_after}
 
 -- no run is longer than the history
@@ -41,10 +41,10 @@ unfolding within
 runs_within [] h = refl
 runs_within (p ∷ ps) h = rw (run_within p h, runs_within ps h)
 
-standing_in_range_lem : (past : Past) (n : Notice) → IfSent (LastReport past) n → T (standing_in_range (size past) n)
+standing_in_range_lem : (past : Past) (n : Option Message) → IfSome n (LastReport past) → T (standing_in_range (size past) n)
 unfolding standing_in_range
-standing_in_range_lem past Nothing s = tt
-standing_in_range_lem past (Sent m) s =
+standing_in_range_lem past None s = tt
+standing_in_range_lem past (Some m) s =
     and_i (admits m && not (is_cancel m)) (ltb m.reference (size past))
     (and_i (admits m) (not (is_cancel m)) (admits_it m s.admitted) s.no_cancel)
     (lt→ltb _ _ s.earlier)

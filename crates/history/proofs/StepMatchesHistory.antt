@@ -9,10 +9,9 @@ use native.Mathlib.Numerals.{add-one}
 use native.Mathlib.Omega.{arith}
 use borrow.Author.Tests.{leb-true, leb-false, lt-ltb, le-ltb}
 use lib.Dec.{leb, ltb, leb-suc-suc}
+use Rattle.std.proofs.Common.{Option, Some, None}
 use Rattle.sample.specs.declared.Sample.{Sample}
 use Rattle.message.specs.declared.Message.{Message}
-use Rattle.history.specs.declared.Notice.{Notice}
-use Rattle.history.specs.declared.Notice.TheVariants.{Nothing, Sent}
 use Rattle.history.specs.declared.Log.{Log}
 use Rattle.history.specs.declared.State.{State}
 use Rattle.history.specs.declared.Decision.{Decision}
@@ -22,7 +21,7 @@ use Rattle.history.specs.Runs.{facts, facts_of, runs_after, runs_of}
 use Rattle.history.specs.State.{fresh, conditions_at, cycle_after, with_sample, quality_from, seen, logged, logged_notice, with_log, step, state_after, steps_give}
 
 -- the log where n stands, of the messages, the newest first
-unfoldable pub log_of : Notice → List Message → Log
+unfoldable pub log_of : Option Message → List Message → Log
 log_of n ms = record { standing = n; started = started ms; counted = counted ms; lastcancel = last_cancel ms; events = events ms }
 
 -- the state that a history leaves
@@ -48,20 +47,20 @@ unfolding with_sample facts_of runs_after conditions_at cycle_after size state_o
 taken_matches x past = refl
 
 -- the messages are logged
-logged_matches : (a n : Notice) (ms : List Message) → logged_notice (log_of n ms) a ≡ log_of (standing_after n (noticed a)) (reverse_aux (noticed a) ms)
+logged_matches : (a n : Option Message) (ms : List Message) → logged_notice (log_of n ms) a ≡ log_of (standing_after n (noticed a)) (reverse_aux (noticed a) ms)
 unfolding logged_notice logged log_of noticed standing_after started counted counted_from last_cancel events
-logged_matches Nothing n ms = refl
-logged_matches (Sent m) n ms = refl
+logged_matches None n ms = refl
+logged_matches (Some m) n ms = refl
 
-both_logged : (a b n : Notice) (ms : List Message)
+both_logged : (a b n : Option Message) (ms : List Message)
     → logged_notice (logged_notice (log_of n ms) a) b ≡ log_of (standing_after n (noticed a ++ noticed b)) (reverse_aux (noticed a ++ noticed b) ms)
 unfolding noticed standing_after
 both_logged a b n ms = rw (logged_matches a n ms) (logged_matches b _ _) ∙ joined a
   where
-    joined : (a : Notice) → log_of (standing_after (standing_after n (noticed a)) (noticed b)) (reverse_aux (noticed b) (reverse_aux (noticed a) ms))
+    joined : (a : Option Message) → log_of (standing_after (standing_after n (noticed a)) (noticed b)) (reverse_aux (noticed b) (reverse_aux (noticed a) ms))
         ≡ log_of (standing_after n (noticed a ++ noticed b)) (reverse_aux (noticed a ++ noticed b) ms)
-    joined Nothing = refl
-    joined (Sent m) = refl
+    joined None = refl
+    joined (Some m) = refl
 
 given_matches : (x : Sample) (d : Decision) (past : Past)
     → with_log (state_of (present x ∷ past)) (logged_notice (logged_notice (state_of (present x ∷ past)).log d.cancel) d.report)

@@ -1,6 +1,6 @@
 -- The history reading of document 01: it sees all accepted samples and the messages given before, looks back over them, and keeps nothing.
 -- Assumes nothing.
-use Rattle.std.specs.Prelude.{ℕ, ◌+◌, ◌-◌, max, Bool, false, not, ◌&&◌, ◌||◌, cond, leb, ltb, eqb}
+use Rattle.std.specs.Prelude.{ℕ, ◌+◌, ◌-◌, max, Bool, false, not, ◌&&◌, ◌||◌, cond, leb, ltb, eqb, Option, Some, None}
 use mathlib.Core.List.{List, [], ◌∷◌, ◌++◌, reverse_aux}
 use Rattle.warnings.specs.Warnings.{new, cancel, stopped, broken_down, post_crash}
 use Rattle.sample.specs.declared.Sample.{Sample}
@@ -9,8 +9,6 @@ use Rattle.filter.specs.declared.Filter.{Filter}
 use Rattle.filter.specs.declared.Filter.TheVariants.{Empty}
 use Rattle.filter.specs.Filter.{next, is_at_most_8}
 use Rattle.message.specs.declared.Message.{Message}
-use Rattle.history.specs.declared.Notice.{Notice}
-use Rattle.history.specs.declared.Notice.TheVariants.{Nothing, Sent}
 use Rattle.history.specs.declared.Cycle.{Cycle}
 use Rattle.history.specs.declared.View.{View}
 use Rattle.history.specs.Rules.{Settings, rank, standing_rank, decide, given_by}
@@ -145,13 +143,13 @@ abbrev pub is_cancel : Message → Bool
 is_cancel m = eqb m.kind cancel
 
 -- what the messages of a tick, in their order, leave standing of what stood before: the last of them, unless that is a Cancel
-unfoldable pub standing_after : Notice → List Message → Notice
+unfoldable pub standing_after : Option Message → List Message → Option Message
 standing_after n [] = n
-standing_after n (m ∷ ms) = standing_after (cond (is_cancel m) Nothing (Sent m)) ms
+standing_after n (m ∷ ms) = standing_after (cond (is_cancel m) None (Some m)) ms
 
 -- the standing warning's last New or Update; "before tick 0 none stands"
-unfoldable pub standing : Past → Notice
-standing [] = Nothing
+unfoldable pub standing : Past → Option Message
+standing [] = None
 standing (t ∷ past) = standing_after (standing past) t.given
 
 -- "the count of New messages so far"
@@ -194,11 +192,13 @@ ready warning t past =
 unfoldable pub cycle_of : ℕ → Past → Cycle
 cycle_of warning h = record {
   ticks = run (ready warning) h;
-  park = during (ready warning) condition_a h;
-  idle = during (ready warning) condition_b h;
-  brake = during (ready warning) condition_c h;
-  belt = during (ready warning) condition_d h;
-  expiring = during (ready warning) one_of_e_to_h h;
+  marks = record {
+    park = during (ready warning) condition_a h;
+    idle = during (ready warning) condition_b h;
+    brake = during (ready warning) condition_c h;
+    belt = during (ready warning) condition_d h;
+    expiring = during (ready warning) one_of_e_to_h h;
+  };
 }
 
 -- ---- the happenings of warning 3

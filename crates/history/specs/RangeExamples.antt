@@ -1,22 +1,22 @@
 -- The ranges of refusal 21 by examples, as docs/DECISIONS.md lists them: each number as large as it may be, and one more.
 -- Assumes nothing.
-use Rattle.std.specs.Prelude.{ℕ, ◌+◌, ◌≡◌, Bool, true, false, List, [], ◌∷◌, map, pos, get_or, set, drop, replicate}
+use Rattle.std.specs.Prelude.{ℕ, ◌+◌, ◌≡◌, Bool, true, false, List, [], ◌∷◌, map, pos, get_or, set, drop, replicate, Option, Some, None}
 use Rattle.wire.specs.EveryByte.{numbers_from}
 use Rattle.filter.specs.declared.Filter.TheVariants.{Empty}
+use Rattle.message.specs.declared.Message.{Message}
 use Rattle.message.specs.Examples.{message}
-use Rattle.history.specs.declared.Notice.{Notice}
-use Rattle.history.specs.declared.Notice.TheVariants.{Nothing, Sent}
 use Rattle.history.specs.declared.Cycle.{Cycle}
 use Rattle.history.specs.declared.State.{State}
 use Rattle.history.specs.Runs.{run_count}
+use Rattle.history.specs.State.{no_marks}
 use Rattle.history.specs.Ranges.{state_in_range}
 
 -- a cycle of this many ticks, in which no condition was fulfilled
 abbrev pub cycle_of_ticks : ℕ → Cycle
-cycle_of_ticks ticks = record { ticks = ticks; park = false; idle = false; brake = false; belt = false; expiring = false }
+cycle_of_ticks ticks = record { ticks = ticks; marks = no_marks }
 
 -- the state that has taken n samples, with these numbers in the order of the list in docs/DECISIONS.md
-unfoldable pub state_with : ℕ → List ℕ → Notice → State
+unfoldable pub state_with : ℕ → List ℕ → Option Message → State
 state_with n numbers standing = record {
   taken = n;
   filter = Empty;
@@ -40,14 +40,14 @@ sevens = replicate (6 + run_count) 7
 -- whether the state is in range with the standing warning's last message of this kind, quality and reference tick
 unfoldable pub in_range_with : ℕ → ℕ → ℕ → Bool
 in_range_with kind quality reference =
-    state_in_range (state_with 7 sevens (Sent (message kind 1 quality 0 0 1 reference reference (pos 3) (pos 4) 5 30)))
+    state_in_range (state_with 7 sevens (Some (message kind 1 quality 0 0 1 reference reference (pos 3) (pos 4) 5 30)))
 
 pub record RangeExamples : Type 0 where
   -- 0 to 10,000,000 samples taken
-  pub taken : map (λ n. state_in_range (state_with n [] Nothing)) (0 ∷ 10000000 ∷ 10000001 ∷ []) ≡ true ∷ true ∷ false ∷ []
+  pub taken : map (λ n. state_in_range (state_with n [] None)) (0 ∷ 10000000 ∷ 10000001 ∷ []) ≡ true ∷ true ∷ false ∷ []
   -- each count and tick at most the samples taken: none above, and each of them one above
-  pub none_above : state_in_range (state_with 7 sevens Nothing) ≡ true
-  pub each_above : map (λ p. state_in_range (state_with 7 (set sevens p 8) Nothing)) (numbers_from 0 (6 + run_count)) ≡ replicate (6 + run_count) false
+  pub none_above : state_in_range (state_with 7 sevens None) ≡ true
+  pub each_above : map (λ p. state_in_range (state_with 7 (set sevens p 8) None)) (numbers_from 0 (6 + run_count)) ≡ replicate (6 + run_count) false
   -- the standing warning's message: a New or an Update that 14 admits, and no Cancel, with a reference tick below the samples taken
   pub kinds : map (λ kind. in_range_with kind 3 6) (1 ∷ 2 ∷ 3 ∷ []) ≡ true ∷ true ∷ false ∷ []
   pub admitted : map (λ quality. in_range_with 1 quality 6) (0 ∷ 1 ∷ 3 ∷ 4 ∷ []) ≡ false ∷ true ∷ true ∷ false ∷ []

@@ -1,17 +1,16 @@
 -- The ranges of refusal 21, as docs/DECISIONS.md lists them.
 -- Assumes nothing.
-use Rattle.std.specs.Prelude.{ℕ, suc, ◌≤◌, Bool, true, not, ◌&&◌, List, [], ◌∷◌, leb, ltb, get_or}
+use Rattle.std.specs.Prelude.{ℕ, suc, ◌≤◌, Bool, true, not, ◌&&◌, List, [], ◌∷◌, leb, ltb, get_or, Option, Some, None}
 use Rattle.filter.specs.Filter.{in_range}
+use Rattle.message.specs.declared.Message.{Message}
 use Rattle.message.specs.Message.{admits}
-use Rattle.history.specs.declared.Notice.{Notice}
-use Rattle.history.specs.declared.Notice.TheVariants.{Nothing, Sent}
 use Rattle.history.specs.declared.State.{State}
 use Rattle.history.specs.History.{is_cancel}
 
 -- the standing warning's message is one that 14 admits and no Cancel, of a tick before n
-unfoldable pub standing_in_range : ℕ → Notice → Bool
-standing_in_range n Nothing = true
-standing_in_range n (Sent m) = admits m && not (is_cancel m) && ltb m.reference n
+unfoldable pub standing_in_range : ℕ → Option Message → Bool
+standing_in_range n None = true
+standing_in_range n (Some m) = admits m && not (is_cancel m) && ltb m.reference n
 
 -- every number of the state that counts ticks or News, or is the number of a tick
 abbrev pub counts : State → List ℕ

@@ -1,12 +1,10 @@
 -- The rules of document 01: what is given at a tick, from what is looked at. What that is, `History` says by looking back, `State` by counting.
 -- Assumes nothing.
-use Rattle.std.specs.Prelude.{ℕ, ◌+◌, ◌-◌, ◌*◌, ◌/◌, Bool, false, not, ◌&&◌, ◌||◌, cond, List, [], ◌∷◌, ◌++◌, leb, ltb, eqb, ℤ, nat_abs, ◌-ℤ◌, get_or}
+use Rattle.std.specs.Prelude.{ℕ, ◌+◌, ◌-◌, ◌*◌, ◌/◌, Bool, false, not, ◌&&◌, ◌||◌, cond, List, [], ◌∷◌, ◌++◌, leb, ltb, eqb, ℤ, nat_abs, ◌-ℤ◌, get_or, Option, Some, None}
 use Rattle.warnings.specs.Warnings.{new, update, cancel, post_crash, by_rank, row_of, validity_of, road_type_of}
 use Rattle.sample.specs.declared.Position.{Position}
 use Rattle.sample.specs.Sample.{switches_of}
 use Rattle.message.specs.declared.Message.{Message}
-use Rattle.history.specs.declared.Notice.{Notice}
-use Rattle.history.specs.declared.Notice.TheVariants.{Nothing, Sent}
 use Rattle.history.specs.declared.Cycle.{Cycle}
 use Rattle.history.specs.declared.View.{View}
 use Rattle.history.specs.declared.Decision.{Decision}
@@ -25,9 +23,9 @@ unfoldable pub rank : ℕ → ℕ
 rank warning = (row_of warning).rank
 
 -- the rank of the standing warning
-unfoldable pub standing_rank : Notice → ℕ
-standing_rank Nothing = 0
-standing_rank (Sent m) = rank m.warning
+unfoldable pub standing_rank : Option Message → ℕ
+standing_rank None = 0
+standing_rank (Some m) = rank m.warning
 
 -- ---- which warnings trigger
 
@@ -36,13 +34,13 @@ one b = cond b 1 0
 
 -- "k the number of conditions a-d that were fulfilled at some tick from a to i"
 unfoldable pub fulfilled : Cycle → ℕ
-fulfilled c = one c.park + one c.idle + one c.brake + one c.belt
+fulfilled c = one c.marks.park + one c.marks.idle + one c.marks.brake + one c.marks.belt
 
 -- "It triggers at i if (i-a) + 100k is at least 300, or one of e-h was fulfilled at such a tick"; a cycle of no tick has no a
 unfoldable pub cycle_triggers : Settings → Cycle → Bool
 cycle_triggers S c =
     ltb 0 c.ticks
-    && (leb S.countdown ((c.ticks - 1) + S.reduction * fulfilled c) || c.expiring)
+    && (leb S.countdown ((c.ticks - 1) + S.reduction * fulfilled c) || c.marks.expiring)
 
 -- "It triggers on a high severity crash among them, or on any other if still at i."
 unfoldable pub crash_triggers : View → Bool
@@ -110,9 +108,9 @@ cancel_of tick m = record {
 }
 
 -- the Cancel of the standing one, if any
-unfoldable pub cancel_standing : ℕ → Notice → Notice
-cancel_standing tick Nothing = Nothing
-cancel_standing tick (Sent m) = Sent (cancel_of tick m)
+unfoldable pub cancel_standing : ℕ → Option Message → Option Message
+cancel_standing tick None = None
+cancel_standing tick (Some m) = Some (cancel_of tick m)
 
 -- ---- the three rules
 
@@ -145,30 +143,30 @@ unfoldable pub update_due : View → Message → Bool
 update_due v m = leb (m.reference + (row_of m.warning).period) v.tick || v.switchedoff
 
 abbrev pub silent : Decision
-silent = record { cancel = Nothing; report = Nothing }
+silent = record { cancel = None; report = None }
 
 -- "1. .. Cancel of the standing one, if any, then New of the highest"; "event, the count of New messages so far, a New counting itself"
 unfoldable pub raise : View → ℕ → Decision
 raise v warning = record {
   cancel = cancel_standing v.tick v.standing;
-  report = Sent (report_of new warning (v.events + 1) v.recent v);
+  report = Some (report_of new warning (v.events + 1) v.recent v);
 }
 
 -- rules 2 and 3 for the standing warning
-unfoldable pub keep : View → Notice → Decision
-keep v Nothing = silent
-keep v (Sent m) =
-    cond (cancel_due v m) (record { cancel = cancel_standing v.tick (Sent m); report = Nothing })
-    (cond (update_due v m) (record { cancel = Nothing; report = Sent (report_of update m.warning v.events v.kept v) }) silent)
+unfoldable pub keep : View → Option Message → Decision
+keep v None = silent
+keep v (Some m) =
+    cond (cancel_due v m) (record { cancel = cancel_standing v.tick (Some m); report = None })
+    (cond (update_due v m) (record { cancel = None; report = Some (report_of update m.warning v.events v.kept v) }) silent)
 
 -- "At tick i, first that applies"
 unfoldable pub decide : Settings → View → Decision
 decide S v = cond (eqb (highest S v) 0) (keep v v.standing) (raise v (highest S v))
 
 -- the messages of a decision, in their order
-unfoldable pub noticed : Notice → List Message
-noticed Nothing = []
-noticed (Sent m) = m ∷ []
+unfoldable pub noticed : Option Message → List Message
+noticed None = []
+noticed (Some m) = m ∷ []
 
 unfoldable pub given_by : Decision → List Message
 given_by d = noticed d.cancel ++ noticed d.report

@@ -8,6 +8,7 @@ use sample::Sample;
 
 // The state's unbroken runs, by their places: for how many ticks up to now the vehicle has stood still, has moved, each lever and
 // switch has been as conditions a to h ask, and no eCall, no low severity crash or pedestrian collision, no high severity crash came.
+// Numbers and no enum: they are places of an array that the loops go over whole.
 pub const RUNS: usize = 13;
 
 pub const STILL: usize = 0;
@@ -36,25 +37,7 @@ pub const NO_LOW: usize = 11;
 
 pub const NO_HIGH: usize = 12;
 
-// A message, or none.
-#[derive(Clone, Copy)]
-pub enum Notice {
-    Nothing,
-    Sent(Message),
-}
-
-// A detection cycle of warning 1 or 2: its ticks, which of conditions a to d were fulfilled in it, and whether one of e to h was.
-#[derive(Clone, Copy)]
-pub struct Cycle {
-    pub ticks: u32,
-    pub park: bool,
-    pub idle: bool,
-    pub brake: bool,
-    pub belt: bool,
-    pub expiring: bool,
-}
-
-// Which of conditions a to d are fulfilled now, and whether one of e to h is.
+// Which of conditions a to d are fulfilled, and whether one of e to h is.
 #[derive(Clone, Copy)]
 pub struct Conditions {
     pub park: bool,
@@ -64,17 +47,37 @@ pub struct Conditions {
     pub expiring: bool,
 }
 
+// A detection cycle of warning 1 or 2: its ticks, and the marks of the conditions that were fulfilled at some tick in it.
+#[derive(Clone, Copy)]
+pub struct Cycle {
+    pub ticks: u32,
+    pub marks: Conditions,
+}
+
+// No cycle runs.
+pub const NO_CYCLE: Cycle = Cycle {
+    ticks: 0,
+    marks: Conditions {
+        park: false,
+        idle: false,
+        brake: false,
+        belt: false,
+        expiring: false,
+    },
+};
+
 // What is kept of the messages given: the standing warning's last New or Update, the tick of the last New and the first tick that
 // it counted, the tick of the last Cancel of warning 3, and the number of News.
 #[derive(Clone, Copy)]
 pub struct Log {
-    pub standing: Notice,
+    pub standing: Option<Message>,
     pub started: u32,
     pub counted: u32,
     pub lastcancel: u32,
     pub events: u32,
 }
 
+// A field for each of the two cycles and no array: each rule and definition is about the one or the other, by its name.
 #[derive(Clone, Copy)]
 pub struct State {
     pub taken: u32,
@@ -92,7 +95,7 @@ pub struct State {
 pub struct View {
     pub tick: u32,
     pub sample: Sample,
-    pub standing: Notice,
+    pub standing: Option<Message>,
     pub started: u32,
     pub events: u32,
     pub stationary: u32,
@@ -109,8 +112,8 @@ pub struct View {
 // What is given at a tick: a Cancel or none, and then a New or an Update or none.
 #[derive(Clone, Copy)]
 pub struct Decision {
-    pub cancel: Notice,
-    pub report: Notice,
+    pub cancel: Option<Message>,
+    pub report: Option<Message>,
 }
 
 #[derive(Clone, Copy)]

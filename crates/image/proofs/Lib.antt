@@ -1,4 +1,3 @@
-pub mod SameBytes
 pub mod WordBytes
 pub mod NumbersIn
 pub mod RunsKept
@@ -9,3 +8,4 @@ pub mod StateAgain
 pub mod LoadOfSave
 pub mod Loaded
 pub mod OwnedState
+pub mod Mapped

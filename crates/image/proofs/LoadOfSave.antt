@@ -9,16 +9,17 @@ use borrow.Author.Tests.{eq-eqb, eqb-true, not-false}
 use lib.Dec.{T, eqb}
 use lib.ListN.{length, get_or}
 use lib.Ieee.Fits.{and_l, and_r}
-use Rattle.wire.specs.Outcome.{first_fault, outcome, accepted}
+use Rattle.std.proofs.Common.{bytes_eq, Result}
+use Rattle.std.proofs.lemmas.Slice.Eq.{bytes_eq-Decides}
+use Rattle.wire.specs.Outcome.{first_fault, outcome, accepted, answered}
 use Rattle.wire.proofs.FirstFault.{accepted_clear, clear_first}
 use Rattle.wire.proofs.Tests.{holds_true, true_holds}
 use Rattle.filter.specs.Filter.{is_f32}
 use Rattle.history.specs.declared.State.{State}
 use Rattle.history.specs.Runs.{run_count}
 use Rattle.history.specs.Ranges.{state_in_range}
-use Rattle.image.specs.declared.Loading.{Loading}
-use Rattle.image.proofs.SameBytes.{same_refl, same_equal}
-use Rattle.image.specs.Image.{layout, image_size, image_of, state_in, same_bytes, is_image, image_read, loading, Saved, Loaded}
+use Rattle.wire.specs.declared.Refusal.{Refusal}
+use Rattle.image.specs.Image.{layout, image_size, image_of, state_in, is_image, image_read, Saved, Loaded}
 use Rattle.image.proofs.SavedParts.{image_length}
 use Rattle.image.proofs.StateAgain.{state_in_image}
 
@@ -30,7 +31,7 @@ image_layout s = refl
 module _ (s : State) (range : state_in_range s ≡ true) (size : length s.runs ≡ run_count) (f32 : T (is_f32 s.filter)) where
   pub image_is_image : is_image (image_of s) ≡ true
   unfolding is_image
-  image_is_image = simp (eq-eqb _ _ (image_length s size), eq-eqb _ _ (image_layout s), state_in_image s range size f32, range, same_refl (image_of s))
+  image_is_image = simp (eq-eqb _ _ (image_length s size), eq-eqb _ _ (image_layout s), state_in_image s range size f32, range, (bytes_eq-Decides (image_of s) (image_of s)).1 refl)
 
   -- loading what was saved gives the state again
   pub load_of_save : image_read (image_of s) ≡ accepted s
@@ -50,12 +51,12 @@ is_image_lem s e =
     let a = eqb (length s) image_size in
     let b = eqb (get_or s 0 0) layout in
     let c = state_in_range (state_in s) in
-    let d = same_bytes (image_of (state_in s)) s in
+    let d = bytes_eq (image_of (state_in s)) s in
     let u = and_l (a && b && c) d t in
     record {
       whole = eqb-true _ _ (holds_true a (and_l a b (and_l (a && b) c u)));
       range = holds_true c (and_r (a && b) c u);
-      saved = same_equal _ _ (and_r (a && b && c) d t);
+      saved = (bytes_eq-Decides (image_of (state_in s)) s).0 (holds_true d (and_r (a && b && c) d t));
     }
 
 -- an accepted image is byte for byte what saving makes of its state, which is within 21's ranges
@@ -72,5 +73,6 @@ save_of_load s t r =
 pub saved_promise : (s : State) (r : List ℕ) → length s.runs ≡ run_count → T (is_f32 s.filter) → r ≡ image_of s → Saved s r
 saved_promise s r size f32 h = record { image = h; loads_back = λ range. rw h (load_of_save s range size f32) }
 
-pub loaded_promise : (image : List ℕ) (r : Loading) → loading r ≡ image_read image → Loaded image r
-loaded_promise image r h = record { found = h; as_saved = λ s f. (save_of_load image s (sym h ∙ f)).0 }
+pub loaded_promise : (image : List ℕ) (r : Result State Refusal) → answered r ≡ image_read image → Loaded image r
+unfolding answered
+loaded_promise image r h = record { found = h; as_saved = λ s e. let a : answered r ≡ accepted s = rw e refl in (save_of_load image s (sym h ∙ a)).0 }

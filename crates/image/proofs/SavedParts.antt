@@ -5,11 +5,11 @@ use mathlib.Core.List.{List, [], ◌∷◌, ◌++◌, append_assoc, append-nil}
 use Prim.Native.Nat.{ℕ, ◌+◌, ◌*◌, ◌≤◌}
 use native.Mathlib.Omega.{arith}
 use lib.ListN.{length, take, drop, length-append, drop_of_length-le}
+use Rattle.std.proofs.Common.{Option, Some, None}
 use Rattle.wire.specs.Memory.{splice}
 use Rattle.wire.proofs.Splice.{splice_join, splice_parts}
+use Rattle.message.specs.declared.Message.{Message}
 use Rattle.message.proofs.RoundTrip.{encode-length}
-use Rattle.history.specs.declared.Notice.{Notice}
-use Rattle.history.specs.declared.Notice.TheVariants.{Nothing, Sent}
 use Rattle.history.specs.declared.State.{State}
 use Rattle.history.specs.Runs.{run_count}
 use Rattle.image.proofs.WordBytes.{word_bytes_length, word_bytes_append}
@@ -21,10 +21,10 @@ flags_length : (s : State) → length (flags_of s) ≡ flag_count
 unfolding flags_of
 flags_length s = refl
 
-pub standing_length : (n : Notice) → length (standing_bytes n) ≡ 32
+pub standing_length : (n : Option Message) → length (standing_bytes n) ≡ 32
 unfolding standing_bytes
-standing_length Nothing = refl
-standing_length (Sent m) = encode-length m
+standing_length None = refl
+standing_length (Some m) = encode-length m
 
 -- what stands before the numbers
 pub head_length : (s : State) → length (layout ∷ flags_of s ++ standing_bytes s.log.standing) ≡ words_place

@@ -11,6 +11,7 @@ use lib.Seq.{take_at, ext_get_or}
 use lib.Ieee.{Float, nan, inf, fin, binary32, to_bits, is_nan, le}
 use lib.Ieee.Bits.{of_bits-to_bits, to_bits-lt, nan_bits_is}
 use lib.Ieee.Fits.{and_r}
+use Rattle.std.proofs.Common.{Option, Some, None, is_some}
 use Rattle.wire.proofs.Tests.{true_holds}
 use Rattle.filter.specs.Filter.{lowest, highest, in_range, is_f32}
 use Rattle.filter.specs.declared.Filter.{Filter}
@@ -18,14 +19,13 @@ use Rattle.filter.specs.declared.Filter.TheVariants.{Empty, Running}
 use Rattle.message.specs.declared.Message.{Message}
 use Rattle.message.specs.Message.{admits}
 use Rattle.message.proofs.RoundTrip.{written_reads_back}
-use Rattle.history.specs.declared.Notice.{Notice}
-use Rattle.history.specs.declared.Notice.TheVariants.{Nothing, Sent}
+use Rattle.history.specs.declared.Conditions.{Conditions}
 use Rattle.history.specs.declared.State.{State}
 use Rattle.history.specs.Runs.{run_count}
 use Rattle.history.specs.Ranges.{state_in_range, stopped_place, broken_down_place, started_place, counted_place, last_cancel_place, events_place}
-use Rattle.history.proofs.StateMade.{cycle_made, log_made, state_made}
+use Rattle.history.proofs.StateMade.{marks_made, cycle_made, log_made, state_made}
 use Rattle.history.proofs.InRange.{InRange, in_range_lem}
-use Rattle.image.specs.Image.{layout, stopped_marks, broken_down_marks, sent_flag, standing_place, words_place, number_count, flag, is_running, filter_bits, is_sent, flags_of, standing_bytes, words_of, word_bytes, image_of, flag_in, number_in, runs_in, filter_in, notice_of, standing_in, cycle_in, log_in, state_in, running_flag, ignition_flag, taken_number, filter_number, count_number}
+use Rattle.image.specs.Image.{layout, stopped_marks, broken_down_marks, sent_flag, standing_place, words_place, number_count, flag, is_running, filter_bits, flags_of, standing_bytes, words_of, word_bytes, image_of, flag_in, number_in, runs_in, filter_in, notice_of, standing_in, cycle_in, log_in, state_in, running_flag, ignition_flag, taken_number, filter_number, count_number}
 use Rattle.image.proofs.WordBytes.{word_behind, Fit, word_at}
 use Rattle.image.proofs.SavedParts.{standing_length, head_length}
 use Rattle.image.proofs.NumbersIn.{runs_in_length, run_in_at}
@@ -35,6 +35,17 @@ use Rattle.image.proofs.NumbersIn.{runs_in_length, run_in_at}
 flag_again : (b : Bool) → eqb (flag b) 1 ≡ b
 flag_again true = refl
 flag_again false = refl
+
+marks_again : (c : Conditions)
+    → ◌≡◌ {A = Conditions} (record {
+      park = eqb (flag c.park) 1;
+      idle = eqb (flag c.idle) 1;
+      brake = eqb (flag c.brake) 1;
+      belt = eqb (flag c.belt) 1;
+      expiring = eqb (flag c.expiring) 1;
+    }) c
+marks_again c =
+    marks_made c _ _ _ _ _ (flag_again c.park) (flag_again c.idle) (flag_again c.brake) (flag_again c.belt) (flag_again c.expiring)
 
 bits_fit : (f : Filter) → T (is_f32 f) → filter_bits f < 256 ^ 4
 unfolding filter_bits is_f32
@@ -55,10 +66,10 @@ filter_again (Running f) r t =
     let plain = nan_bits_is binary32 (to_bits binary32 f) ∙ ap is_nan again ∙ no_nan f (and_r (le lowest f) (le f highest) r) in
     rw (plain, again)
 
-standing_again : (n : Notice) → ((m : Message) → n ≡ Sent m → T (admits m)) → standing_in (is_sent n) (standing_bytes n) ≡ n
-unfolding standing_in is_sent standing_bytes notice_of
-standing_again Nothing h = refl
-standing_again (Sent m) h = rw (written_reads_back m (h m refl))
+standing_again : (n : Option Message) → ((m : Message) → n ≡ Some m → T (admits m)) → standing_in (is_some n) (standing_bytes n) ≡ n
+unfolding standing_in standing_bytes notice_of
+standing_again None h = refl
+standing_again (Some m) h = rw (written_reads_back m (h m refl))
 
 -- ---- the state
 
@@ -90,32 +101,24 @@ module _ (s : State) (h : InRange s) (size : length s.runs ≡ run_count) (t : T
   first_again : cycle_in 2 stopped_marks (image_of s) ≡ s.stoppedcycle
   unfolding flag_in image_of flags_of words_of
   first_again =
-      cycle_made s.stoppedcycle _ _ _ _ _ _
+      cycle_made s.stoppedcycle _ _
       (number_again (count_number stopped_place))
-      (flag_again s.stoppedcycle.park)
-      (flag_again s.stoppedcycle.idle)
-      (flag_again s.stoppedcycle.brake)
-      (flag_again s.stoppedcycle.belt)
-      (flag_again s.stoppedcycle.expiring)
+      (marks_again s.stoppedcycle.marks)
 
   second_again : cycle_in 3 broken_down_marks (image_of s) ≡ s.brokendowncycle
   unfolding flag_in image_of flags_of words_of
   second_again =
-      cycle_made s.brokendowncycle _ _ _ _ _ _
+      cycle_made s.brokendowncycle _ _
       (number_again (count_number broken_down_place))
-      (flag_again s.brokendowncycle.park)
-      (flag_again s.brokendowncycle.idle)
-      (flag_again s.brokendowncycle.brake)
-      (flag_again s.brokendowncycle.belt)
-      (flag_again s.brokendowncycle.expiring)
+      (marks_again s.brokendowncycle.marks)
 
   record_again : take 32 (drop standing_place (image_of s)) ≡ standing_bytes s.log.standing
   unfolding image_of flags_of
   record_again = take_at (standing_bytes s.log.standing) (word_bytes (words_of s)) 32 (standing_length s.log.standing)
 
-  sent_again : flag_in sent_flag (image_of s) ≡ is_sent s.log.standing
+  sent_again : flag_in sent_flag (image_of s) ≡ is_some s.log.standing
   unfolding flag_in image_of flags_of
-  sent_again = flag_again (is_sent s.log.standing)
+  sent_again = flag_again (is_some s.log.standing)
 
   log_again : log_in (image_of s) ≡ s.log
   unfolding log_in words_of

@@ -1,16 +1,16 @@
--- The bytes of words, four each: their length, one word more, and the word at each place.
+-- The bytes of words, four each: their length, one behind the other, and the word at each place.
 -- Assumes nothing.
 use mathlib.Core.Path.{◌≡◌, refl, sym, ap, ◌∙◌}
-use mathlib.Core.List.{List, [], ◌∷◌, ◌++◌, append_assoc, append-nil}
-use Prim.Native.Nat.{ℕ, zero, suc, ◌+◌, ◌*◌, ◌^◌, ◌≤◌, ◌<◌}
-use native.Mathlib.Numerals.{add-one}
+use mathlib.Core.List.{List, [], ◌∷◌, ◌++◌, append_assoc}
+use Prim.Native.Nat.{ℕ, zero, suc, ◌+◌, ◌*◌, ◌^◌, ◌<◌}
 use native.Mathlib.Omega.{arith}
-use lib.ListN.{length, get_or, take, length-take}
-use lib.Seq.{take-suc, take_all, get_or-append-add}
+use lib.ListN.{length, get_or}
+use lib.Seq.{get_or-append-add}
+use Rattle.std.proofs.Common.{map, rules}
+use Rattle.std.specs.List.{flat_map}
+use Rattle.std.specs.Int.{w32, to_le_bytes}
 use Rattle.wire.specs.Words.{little, bytes_of, bytes_at, word}
-use Rattle.wire.specs.Memory.{splice}
 use Rattle.wire.proofs.Words.{little-bytes_of}
-use Rattle.wire.proofs.Splice.{splice_join, splice_nil}
 use Rattle.image.specs.Image.{word_bytes}
 
 pub word_bytes_length : (ws : List ℕ) → length (word_bytes ws) ≡ 4 * length ws
@@ -23,33 +23,15 @@ unfolding word_bytes
 word_bytes_append [] ws = refl
 word_bytes_append (v ∷ vs) ws = rw (word_bytes_append vs ws) (sym (append_assoc (bytes_of 4 v) (word_bytes vs) (word_bytes ws)))
 
--- ---- words written one behind the other
+-- the library's bytes of each word, one behind the other
+le_bytes : (w : ℕ) → to_le_bytes w32 w ≡ bytes_of 4 w
+unfolding bytes_of
+le_bytes w = search rules
 
-module _ (out : List ℕ) (at : ℕ) (ws : List ℕ) (room : at + 4 * length ws ≤ length out) where
-  -- no word yet
-  pub words_none : out ≡ splice out at (word_bytes (take 0 ws))
-  unfolding word_bytes
-  words_none = sym (splice_nil out at (omega arith))
-
-  -- the word at place i behind those before it
-  pub words_more : (i : ℕ) (now last bytes : List ℕ) → i < length ws → now ≡ splice out at (word_bytes (take i ws)) → bytes ≡ bytes_of 4 (get_or ws i 0)
-      → last ≡ splice now (at + 4 * i) bytes → last ≡ splice out at (word_bytes (take (i + 1) ws))
-  unfolding bytes_of word_bytes
-  words_more i now last bytes below e b f =
-      let done = word_bytes (take i ws) in
-      let n : length done ≡ 4 * i = word_bytes_length (take i ws) ∙ omega (arith, length-take i ws) in
-      let fits : at + length done + length (bytes_of 4 (get_or ws i 0)) ≤ length out = omega arith in
-      let place : at + 4 * i ≡ at + length done = omega arith in
-      f
-      ∙ rw (e, b, place) (splice_join out at done (bytes_of 4 (get_or ws i 0)) fits)
-      ∙ ap (λ (l : List ℕ). splice out at l)
-      (ap (λ (l : List ℕ). done ++ l) (sym (append-nil (bytes_of 4 (get_or ws i 0))))
-      ∙ sym (word_bytes_append (take i ws) (get_or ws i 0 ∷ []))
-      ∙ ap word_bytes (sym (take-suc ws i 0 below) ∙ ap (λ (k : ℕ). take k ws) (sym (add-one i))))
-
-  -- all words
-  pub words_all : (i : ℕ) (now : List ℕ) → length ws ≤ i → now ≡ splice out at (word_bytes (take i ws)) → now ≡ splice out at (word_bytes ws)
-  words_all i now h e = e ∙ ap (λ (l : List ℕ). splice out at (word_bytes l)) (take_all i ws h)
+pub flattened : (ws : List ℕ) → flat_map (λ bytes. bytes) (map (to_le_bytes w32) ws) ≡ word_bytes ws
+unfolding word_bytes
+flattened [] = refl
+flattened (w ∷ ws) = rw (flattened ws) (ap (λ (l : List ℕ). l ++ word_bytes ws) (le_bytes w))
 
 -- ---- words read back
 

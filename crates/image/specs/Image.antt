@@ -1,23 +1,22 @@
 -- The engine's image: what saving makes of its state, what is read back from an image, and which bytes are an image.
 -- Assumes nothing. The value of a running filter is kept by its bits, as `lib.Ieee` gives them.
-use Rattle.std.specs.Prelude.{ℕ, zero, suc, ◌+◌, ◌*◌, ◌≡◌, Bool, true, false, not, ◌&&◌, cond, List, [], ◌∷◌, ◌++◌, eqb, length, get_or, take, drop, replicate}
+use Rattle.std.specs.Prelude.{ℕ, zero, suc, ◌+◌, ◌*◌, ◌≡◌, Bool, true, false, not, ◌&&◌, cond, List, [], ◌∷◌, ◌++◌, eqb, length, get_or, take, drop, replicate, Option, Some, None, is_some, bytes_eq, Result, Ok}
 use Rattle.std.specs.Float.{binary32}
 use Rattle.std.specs.Float.Ieee.{of_bits, to_bits, nan_bits}
 use mir.Val.{bool_byte}
+use Rattle.wire.specs.declared.Refusal.{Refusal}
 use Rattle.wire.specs.Words.{bytes_of, word}
-use Rattle.wire.specs.Outcome.{check, first_fault, Outcome, accepted, refused, outcome}
+use Rattle.wire.specs.Outcome.{check, first_fault, Outcome, accepted, refused, outcome, answered}
 use Rattle.filter.specs.declared.Filter.{Filter}
 use Rattle.filter.specs.declared.Filter.TheVariants.{Empty, Running}
 use Rattle.message.specs.declared.Message.{Message}
 use Rattle.message.specs.Message.{encode, message_read}
-use Rattle.history.specs.declared.Notice.{Notice}
-use Rattle.history.specs.declared.Notice.TheVariants.{Nothing, Sent}
+use Rattle.history.specs.declared.Conditions.{Conditions}
 use Rattle.history.specs.declared.Cycle.{Cycle}
 use Rattle.history.specs.declared.Log.{Log}
 use Rattle.history.specs.declared.State.{State}
 use Rattle.history.specs.Runs.{run_count}
 use Rattle.history.specs.Ranges.{counts, stopped_place, broken_down_place, started_place, counted_place, last_cancel_place, events_place, run_place, state_in_range}
-use Rattle.image.specs.declared.Loading.{Loading}
 
 -- ---- the places
 
@@ -92,25 +91,20 @@ unfoldable pub filter_bits : Filter → ℕ
 filter_bits Empty = 0
 filter_bits (Running f) = to_bits binary32 f
 
-unfoldable pub is_sent : Notice → Bool
-is_sent Nothing = false
-is_sent (Sent m) = true
-
 -- a cycle's conditions a to d, and one of e to h
-abbrev pub marks_of : Cycle → List ℕ
+abbrev pub marks_of : Conditions → List ℕ
 marks_of c = flag c.park ∷ flag c.idle ∷ flag c.brake ∷ flag c.belt ∷ flag c.expiring ∷ []
 
--- by whether the filter is running and whether a warning stands
-abbrev pub flags_by : Bool → Bool → State → List ℕ
-flags_by running sent s = flag running ∷ flag s.ignition ∷ marks_of s.stoppedcycle ++ marks_of s.brokendowncycle ++ (flag sent ∷ 0 ∷ 0 ∷ [])
-
 unfoldable pub flags_of : State → List ℕ
-flags_of s = flags_by (is_running s.filter) (is_sent s.log.standing) s
+flags_of s =
+    flag (is_running s.filter)
+    ∷ flag s.ignition
+    ∷ marks_of s.stoppedcycle.marks ++ marks_of s.brokendowncycle.marks ++ (flag (is_some s.log.standing) ∷ 0 ∷ 0 ∷ [])
 
 -- the record of the standing warning's last New or Update, zeros where none stands
-unfoldable pub standing_bytes : Notice → List ℕ
-standing_bytes Nothing = replicate 32 0
-standing_bytes (Sent m) = encode m
+unfoldable pub standing_bytes : Option Message → List ℕ
+standing_bytes None = replicate 32 0
+standing_bytes (Some m) = encode m
 
 -- `counts` ends with the runs
 unfoldable pub words_of : State → List ℕ
@@ -125,7 +119,7 @@ image_of s = layout ∷ flags_of s ++ standing_bytes s.log.standing ++ word_byte
 
 -- ---- the state in an image
 
--- yes or no, and number, by their places among the others: flags in the order of `flags_by`, numbers in that of `words_of`
+-- yes or no, and number, by their places among the others: flags in the order of `flags_of`, numbers in that of `words_of`
 unfoldable pub flag_in : ℕ → List ℕ → Bool
 flag_in k s = eqb (get_or s (flags_place + k) 0) 1
 
@@ -145,23 +139,26 @@ unfoldable pub filter_in : Bool → ℕ → Filter
 filter_in running bits = cond (running && not (nan_bits binary32 bits)) (Running (of_bits binary32 bits)) Empty
 
 -- a refused record is none's
-unfoldable pub notice_of : Outcome Message → Notice
-notice_of (accepted m) = Sent m
-notice_of (refused n) = Nothing
+unfoldable pub notice_of : Outcome Message → Option Message
+notice_of (accepted m) = Some m
+notice_of (refused n) = None
 
-unfoldable pub standing_in : Bool → List ℕ → Notice
-standing_in sent bytes = cond sent (notice_of (message_read bytes)) Nothing
+unfoldable pub standing_in : Bool → List ℕ → Option Message
+standing_in sent bytes = cond sent (notice_of (message_read bytes)) None
 
--- a cycle, by the place of its ticks among the numbers and of its first mark among the flags
-abbrev pub cycle_in : ℕ → ℕ → List ℕ → Cycle
-cycle_in ticks mark s = record {
-  ticks = number_in ticks s;
+-- a cycle's marks, by the place of the first of them among the flags
+abbrev pub marks_in : ℕ → List ℕ → Conditions
+marks_in mark s = record {
   park = flag_in mark s;
   idle = flag_in (mark + 1) s;
   brake = flag_in (mark + 2) s;
   belt = flag_in (mark + 3) s;
   expiring = flag_in (mark + 4) s;
 }
+
+-- a cycle, by the place of its ticks among the numbers and of its first mark among the flags
+abbrev pub cycle_in : ℕ → ℕ → List ℕ → Cycle
+cycle_in ticks mark s = record { ticks = number_in ticks s; marks = marks_in mark s }
 
 unfoldable pub log_in : List ℕ → Log
 log_in s = record {
@@ -185,24 +182,14 @@ state_in s = record {
 
 -- ---- which bytes are an image
 
-unfoldable pub same_bytes : List ℕ → List ℕ → Bool
-same_bytes [] [] = true
-same_bytes [] (y ∷ ys) = false
-same_bytes (x ∷ xs) [] = false
-same_bytes (x ∷ xs) (y ∷ ys) = eqb x y && same_bytes xs ys
-
 -- as many bytes as an image has, the first of them this layout's, byte for byte what saving makes of the state in them, and that
 -- state within 21's ranges
 unfoldable pub is_image : List ℕ → Bool
-is_image s = eqb (length s) image_size && eqb (get_or s 0 0) layout && state_in_range (state_in s) && same_bytes (image_of (state_in s)) s
+is_image s = eqb (length s) image_size && eqb (get_or s 0 0) layout && state_in_range (state_in s) && bytes_eq (image_of (state_in s)) s
 
 -- refusal 21 for bytes that are no image
 unfoldable pub image_read : List ℕ → Outcome State
 image_read s = outcome (first_fault (check 21 (not (is_image s)) ∷ [])) (state_in s)
-
--- the state or the refusal number that loading answers
-unfoldable pub loading : Loading → Outcome State
-loading r = outcome r.fault r.state
 
 -- the promise of `save`: the image, and that it loads as the same state, where that is within 21's ranges
 pub record Saved (s : State) (r : List ℕ) : Type 0 where
@@ -210,6 +197,6 @@ pub record Saved (s : State) (r : List ℕ) : Type 0 where
   pub loads_back : state_in_range s ≡ true → image_read r ≡ accepted s
 
 -- the promise of `load`: what it finds, and that an accepted image is byte for byte what saving makes of its state
-pub record Loaded (image : List ℕ) (r : Loading) : Type 0 where
-  pub found : loading r ≡ image_read image
-  pub as_saved : (s : State) → loading r ≡ accepted s → image_of s ≡ image
+pub record Loaded (image : List ℕ) (r : Result State Refusal) : Type 0 where
+  pub found : answered r ≡ image_read image
+  pub as_saved : (s : State) → r ≡ Ok s → image_of s ≡ image

@@ -1,12 +1,13 @@
 // The parts of an image, each from the engine's state.
-ghost use Rattle.std.specs.Prelude.{◌≡◌, ◌+◌, ◌*◌, ◌≤◌, length, take};
-ghost use Rattle.wire.specs.Memory.{splice};
-ghost use Rattle.image.specs.Image.{number_count, is_running, filter_bits, is_sent, flags_by, flags_of, standing_bytes, words_of, word_bytes};
+ghost use Rattle.std.specs.Prelude.{◌≡◌, take};
+ghost use Rattle.image.specs.Image.{number_count, filter_bits, flags_of, standing_bytes, words_of};
 
 use crate::{FLAGS, NUMBERS};
 use filter::Filter;
-use history::{Notice, State};
+use history::State;
+use message::Message;
 
+#[tactic(auto, unfolding(crate::specs::Image::filter_bits))]
 fn filter_bits(f: Filter) -> u32
     ensures { result ≡ filter_bits f }
 {
@@ -16,98 +17,55 @@ fn filter_bits(f: Filter) -> u32
     }
 }
 
-fn is_running(f: Filter) -> bool
-    ensures { result ≡ is_running f }
-{
-    match f {
-        Filter::Empty => false,
-        Filter::Running(_) => true,
-    }
-}
-
-fn is_sent(n: Notice) -> bool
-    ensures { result ≡ is_sent n }
-{
-    match n {
-        Notice::Nothing => false,
-        Notice::Sent(_) => true,
-    }
-}
-
-fn flags_by(running: bool, sent: bool, s: State) -> [u8; FLAGS]
-    ensures { result ≡ flags_by running sent s }
-{
-    let c1 = s.stoppedcycle;
-    let c2 = s.brokendowncycle;
-    [
-        running as u8,
-        s.ignition as u8,
-        c1.park as u8,
-        c1.idle as u8,
-        c1.brake as u8,
-        c1.belt as u8,
-        c1.expiring as u8,
-        c2.park as u8,
-        c2.idle as u8,
-        c2.brake as u8,
-        c2.belt as u8,
-        c2.expiring as u8,
-        sent as u8,
-        0,
-        0,
-    ]
-}
-
+#[tactic(auto, unfolding(crate::specs::Image::flags_of))]
 pub(crate) fn flags_of(s: State) -> [u8; FLAGS]
     ensures { result ≡ flags_of s }
 {
-    let f = s.filter;
-    let l = s.log;
-    let standing = l.standing;
-    let running = is_running(f);
-    let sent = is_sent(standing);
-    flags_by(running, sent, s)
+    let first = s.stoppedcycle.marks;
+    let second = s.brokendowncycle.marks;
+    [
+        matches!(s.filter, Filter::Running(_)),
+        s.ignition,
+        first.park,
+        first.idle,
+        first.brake,
+        first.belt,
+        first.expiring,
+        second.park,
+        second.idle,
+        second.brake,
+        second.belt,
+        second.expiring,
+        s.log.standing.is_some(),
+        false,
+        false,
+    ]
+    .map(u8::from)
 }
 
-pub(crate) fn standing_bytes(n: Notice) -> [u8; 32]
-    ensures { result ≡ standing_bytes n }
+#[tactic(auto, unfolding(crate::specs::Image::standing_bytes))]
+pub(crate) fn standing_bytes(standing: Option<Message>) -> [u8; 32]
+    ensures { result ≡ standing_bytes standing }
 {
-    match n {
-        Notice::Nothing => [0u8; 32],
-        Notice::Sent(m) => message::encoded(m),
+    match standing {
+        None => [0; 32],
+        Some(m) => message::encoded(m),
     }
 }
 
 // The numbers that stand before the runs.
+#[tactic(auto, unfolding(crate::specs::Image::words_of))]
 pub(crate) fn numbers_of(s: State) -> [u32; NUMBERS]
     ensures { result ≡ take number_count (words_of s) }
 {
-    let f = s.filter;
-    let c1 = s.stoppedcycle;
-    let c2 = s.brokendowncycle;
-    let l = s.log;
-    let bits = filter_bits(f);
     [
         s.taken,
-        bits,
-        c1.ticks,
-        c2.ticks,
-        l.started,
-        l.counted,
-        l.lastcancel,
-        l.events,
+        filter_bits(s.filter),
+        s.stoppedcycle.ticks,
+        s.brokendowncycle.ticks,
+        s.log.started,
+        s.log.counted,
+        s.log.lastcancel,
+        s.log.events,
     ]
-}
-
-// Writes the words from place `at` on, four bytes each.
-pub(crate) fn put_words(out: &mut [u8], at: usize, words: &[u32])
-    requires { at + 4 * length words.now ≤ length out.old }
-    ensures { out.new ≡ splice out.old at (word_bytes words.now) }
-{
-    let mut i = 0;
-    while i < words.len() {
-        let bytes = wire::bytes32(words[i]);
-        wire::copy_at(out, at + 4 * i, &bytes);
-        i += 1;
-    }
 }

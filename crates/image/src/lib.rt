@@ -4,10 +4,12 @@
 mod decoding;
 mod encoding;
 
-ghost use Rattle.std.specs.Prelude.{◌≡◌};
-ghost use Rattle.image.specs.Image.{Saved, Loaded};
+ghost use Rattle.std.specs.Prelude.{◌≡◌, ◌&&◌, eqb, get_or, bytes_eq};
+ghost use Rattle.history.specs.Ranges.{state_in_range};
+ghost use Rattle.image.specs.Image.{layout, image_of, Saved, Loaded};
 
 use history::{RUNS, State};
+use wire::Refusal;
 
 // The first byte of an image. Every change of what an image holds raises it, so that no image of other software is misread.
 const LAYOUT: u8 = 1;
@@ -56,57 +58,37 @@ const RUNS_AT: usize = WORDS_AT + 4 * NUMBERS;
 
 pub const BYTES: usize = RUNS_AT + 4 * RUNS;
 
-// What loading finds: the state, and the number that refuses the image, 0 for an accepted one. With a refusal the state is a fresh one.
-#[derive(Clone, Copy)]
-pub struct Loading {
-    pub state: State,
-    pub fault: u8,
-}
-
-fn refusal() -> Loading
-    ensures { result.fault ≡ 21 }
-{
-    Loading {
-        state: ranges::fresh_state(),
-        fault: 21,
-    }
-}
-
 pub fn save(state: State) -> [u8; BYTES]
     ensures { Saved state result }
 {
-    let log = state.log;
-    let standing = log.standing;
-    let runs = state.runs;
     let flags = encoding::flags_of(state);
-    let record = encoding::standing_bytes(standing);
-    let numbers = encoding::numbers_of(state);
-    let mut image = [0u8; BYTES];
+    let record = encoding::standing_bytes(state.log.standing);
+    let numbers = encoding::numbers_of(state).map(u32::to_le_bytes);
+    let runs = state.runs.map(u32::to_le_bytes);
+    let mut image = [0; BYTES];
     image[0] = LAYOUT;
     wire::copy_at(&mut image, FLAGS_AT, &flags);
     wire::copy_at(&mut image, STANDING_AT, &record);
-    encoding::put_words(&mut image, WORDS_AT, &numbers);
-    encoding::put_words(&mut image, RUNS_AT, &runs);
+    wire::copy_at(&mut image, WORDS_AT, numbers.as_flattened());
+    wire::copy_at(&mut image, RUNS_AT, runs.as_flattened());
     image
 }
 
-// An image is accepted if it has this layout, saving its state again makes the same bytes, and refusal 21 lets that state pass.
-pub fn load(image: &[u8]) -> Loading
+// Whether the image has this layout, refusal 21 lets the state pass, and saving the state makes the same bytes.
+fn is_saved(state: State, image: &[u8; BYTES]) -> bool
+    ensures { result ≡ (eqb (get_or image.now 0 0) layout && state_in_range state && bytes_eq (image_of state) image.now) }
+{
+    image[0] == LAYOUT && ranges::state_in_range(state) && save(state) == *image
+}
+
+pub fn load(image: &[u8]) -> Result<State, Refusal>
     ensures { Loaded image.now result }
 {
-    if image.len() != BYTES {
-        return refusal();
-    }
-    if image[0] != LAYOUT {
-        return refusal();
-    }
+    let image = image.as_array::<BYTES>().ok_or(Refusal::EngineState)?;
     let state = decoding::state_in(image);
-    if !ranges::state_in_range(state) {
-        return refusal();
+    if is_saved(state, image) {
+        Ok(state)
+    } else {
+        Err(Refusal::EngineState)
     }
-    let again = save(state);
-    if !decoding::same(&again, image) {
-        return refusal();
-    }
-    Loading { state, fault: 0 }
 }

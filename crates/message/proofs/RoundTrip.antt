@@ -13,7 +13,8 @@ use mir.Syntax.{w32}
 use mir.Val.{to_z, of_z, SFits}
 use mir.Facts.{of_z-to_z, Fits-of_z}
 use Rattle.wire.specs.Words.{little, bytes_of, bytes_at, word, Bytes}
-use Rattle.wire.specs.declared.Answer.{Answer}
+use Rattle.std.specs.Prelude.{Result}
+use Rattle.wire.specs.declared.Refusal.{Refusal}
 use Rattle.wire.specs.Memory.{memory}
 use Rattle.wire.specs.Outcome.{first_fault, outcome, accepted, answered}
 use Rattle.wire.specs.Tests.{all_hold}
@@ -27,9 +28,8 @@ use Rattle.warnings.specs.Warnings.{row_of, direction_of, validity_of}
 use Rattle.warnings.proofs.Table.{validity_below}
 use Rattle.sample.specs.Sample.{outside, beyond}
 use Rattle.sample.specs.declared.Position.{Position}
-use Rattle.message.specs.Message.{encode, message_of, derived_fit, admits, message_read, reading, write_fault, Found, Written}
+use Rattle.message.specs.Message.{encode, message_of, derived_fit, admits, message_read, write_fault, Found, Written}
 use Rattle.message.specs.declared.Message.{Message}
-use Rattle.message.specs.declared.Reading.{Reading}
 use Rattle.message.proofs.Admitted.{admitted}
 
 -- ---- written, then read
@@ -144,11 +144,11 @@ accepted_is_written s m h e =
 
 -- ---- the promises of the reader and of the writer, from what they find and make
 
-pub found_promise : (s : List ℕ) (r : Reading) → Bytes s → reading r ≡ message_read s → Found s r
-unfolding reading
-found_promise s r h e = record { found = e; as_written = λ m f. (accepted_is_written s m h (sym e ∙ ap reading f)).0 }
+pub found_promise : (s : List ℕ) (r : Result Message Refusal) → Bytes s → answered r ≡ message_read s → Found s r
+unfolding answered
+found_promise s r h e = record { found = e; as_written = λ m f. (accepted_is_written s m h (sym e ∙ ap answered f)).0 }
 
-pub written_promise : (m : Message) (out : List ℕ) (r : Answer) (last : List ℕ)
+pub written_promise : (m : Message) (out : List ℕ) (r : Result ℕ Refusal) (last : List ℕ)
     → (answered r ≡ outcome (write_fault m (length out)) 1) × (last ≡ memory (write_fault m (length out)) (encode m) out)
     → Written m out r last
 unfolding answered write_fault

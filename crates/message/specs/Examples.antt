@@ -1,15 +1,15 @@
 -- The message record by examples: nine messages in bytes, the bounds and the order of its checks, after document 01, "The message" and "What is turned down".
 -- Assumes nothing.
-use Rattle.std.specs.Prelude.{ℕ, ◌-◌, ◌≡◌, false, cond, ◌||◌, eqb, ℤ, pos, get_or, take}
+use Rattle.std.specs.Prelude.{ℕ, ◌-◌, ◌≡◌, false, cond, ◌||◌, eqb, ℤ, pos, get_or, take, Ok, Err}
 use mathlib.Core.List.{List, [], ◌∷◌, ◌++◌, map, foldl}
 use Rattle.wire.specs.Words.{bytes_of}
 use Rattle.wire.specs.Memory.{splice}
-use Rattle.wire.specs.Outcome.{accepted, refused}
+use Rattle.wire.specs.Outcome.{accepted, refused, answered}
 use Rattle.wire.specs.EveryByte.{every_byte}
 use Rattle.sample.specs.Examples.{refusals, refusals_at, refusals_of_byte, minus, coordinates}
 use Rattle.message.specs.declared.Message.{Message}
-use Rattle.message.specs.declared.Reading.TheVariants.{Accepted, Refused}
-use Rattle.message.specs.Message.{encode, message_of, message_read, reading, write_fault}
+use Rattle.wire.specs.declared.Refusal.TheVariants.{MessageFields}
+use Rattle.message.specs.Message.{encode, message_of, message_read, write_fault}
 
 -- kind, warning, quality, roadType, stationarySince, event, detection, reference, east, north, heading, validity
 abbrev pub message : ℕ → ℕ → ℕ → ℕ → ℕ → ℕ → ℕ → ℕ → ℤ → ℤ → ℕ → ℕ → Message
@@ -139,4 +139,4 @@ pub record MessageExamples : Type 0 where
   pub writer : map (write_fault (of_quality 3)) (31 ∷ 32 ∷ 33 ∷ []) ≡ 2 ∷ 0 ∷ 0 ∷ []
   pub writer_order : map (write_fault (of_quality 4)) (31 ∷ 32 ∷ []) ≡ 2 ∷ 14 ∷ []
   -- what the reader's answer stands for
-  pub answer : map reading (Refused 14 ∷ Accepted (message_of (new_of 1)) ∷ []) ≡ refused 14 ∷ accepted (message_of (new_of 1)) ∷ []
+  pub answer : map answered (Err MessageFields ∷ Ok (message_of (new_of 1)) ∷ []) ≡ refused 14 ∷ accepted (message_of (new_of 1)) ∷ []

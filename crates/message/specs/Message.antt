@@ -1,19 +1,16 @@
 -- The 32-byte message: its bytes, its fields, what refusal 14 lets pass, its reading and its writing, after document 01, "The message" and "What is turned down".
 -- Assumes nothing.
-use Rattle.std.specs.Prelude.{ℕ, ◌≡◌, Bool, not, ◌&&◌, ◌||◌, true, false, List, [], ◌∷◌, ◌++◌, ltb, leb, eqb, length, get_or, take}
+use Rattle.std.specs.Prelude.{ℕ, ◌≡◌, Bool, not, ◌&&◌, ◌||◌, true, false, List, [], ◌∷◌, ◌++◌, ltb, leb, eqb, length, get_or, take, Result, Ok}
 use Rattle.std.specs.Int.{w32}
 use Rattle.std.proofs.Common.{to_z, of_z}
 use Rattle.wire.specs.Words.{word, bytes_of}
 use Rattle.wire.specs.Tests.{all_hold}
-use Rattle.wire.specs.declared.Answer.{Answer}
-use Rattle.wire.specs.declared.Answer.TheVariants.{Given}
+use Rattle.wire.specs.declared.Refusal.{Refusal}
 use Rattle.wire.specs.Memory.{memory}
-use Rattle.wire.specs.Outcome.{check, first_fault, Outcome, accepted, refused, outcome, answered}
+use Rattle.wire.specs.Outcome.{check, first_fault, Outcome, accepted, outcome, answered}
 use Rattle.warnings.specs.Warnings.{new, cancel, warning_count, row_of, validity_of, direction_of}
 use Rattle.sample.specs.Sample.{beyond}
 use Rattle.message.specs.declared.Message.{Message}
-use Rattle.message.specs.declared.Reading.{Reading}
-use Rattle.message.specs.declared.Reading.TheVariants.{Accepted, Refused}
 
 -- "32 bytes, little-endian: 0 kind .. 1 warning; 2 sub cause .. 3 cause 94; 4 quality; 5 roadType .. 6 direction .. 7 stationarySince; 8-11 event .. 12-15 detection tick; 16-19 reference tick; 20-27 east, north; 28-29 heading; 30-31 validity in seconds"
 unfoldable pub encode : Message → List ℕ
@@ -101,22 +98,17 @@ message_read s =
     ∷ []))
     (message_of s)
 
--- the message or the refusal number that a reading stands for
-unfoldable pub reading : Reading → Outcome Message
-reading (Accepted m) = accepted m
-reading (Refused n) = refused n
-
 -- "the writer (32 bytes of output) by 2, 14": the number of the first failing check with n bytes of output
 unfoldable pub write_fault : Message → ℕ → ℕ
 write_fault m n = first_fault (check 2 (ltb n 32) ∷ check 14 (not (admits m)) ∷ [])
 
 -- the reader's promise: what it finds, and that accepted bytes are what the writer makes of the message
-pub record Found (bytes : List ℕ) (r : Reading) : Type 0 where
-  pub found : reading r ≡ message_read bytes
-  pub as_written : (m : Message) → r ≡ Accepted m → encode m ≡ bytes
+pub record Found (bytes : List ℕ) (r : Result Message Refusal) : Type 0 where
+  pub found : answered r ≡ message_read bytes
+  pub as_written : (m : Message) → r ≡ Ok m → encode m ≡ bytes
 
 -- the writer's promise: its answer, the output after it, and that what is written reads back the same
-pub record Written (m : Message) (out : List ℕ) (r : Answer) (last : List ℕ) : Type 0 where
+pub record Written (m : Message) (out : List ℕ) (r : Result ℕ Refusal) (last : List ℕ) : Type 0 where
   pub answer : answered r ≡ outcome (write_fault m (length out)) 1
   pub output : last ≡ memory (write_fault m (length out)) (encode m) out
-  pub reads_back : (n : ℕ) → r ≡ Given n → message_read (take 32 last) ≡ accepted m
+  pub reads_back : (n : ℕ) → r ≡ Ok n → message_read (take 32 last) ≡ accepted m

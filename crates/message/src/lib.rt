@@ -1,12 +1,12 @@
 // The 32-byte message record: its reader and its writer.
 #![tactic(auto)]
 
-ghost use Rattle.std.specs.Prelude.{◌≡◌, length};
+ghost use Rattle.std.specs.Prelude.{◌≡◌};
 ghost use Rattle.message.specs.Message.{message_of, encode, admits, derived_fit, Found, Written};
 
 use sample::Position;
 use warnings::{CANCEL, NEW, WARNINGS};
-use wire::Answer;
+use wire::{Refusal, Word};
 
 // The record's own numbers; sub cause, cause and direction follow from the warning and the road type.
 #[derive(Clone, Copy)]
@@ -24,24 +24,17 @@ pub struct Message {
     pub validity: u16,
 }
 
-// What reading a record finds: the message, or the number of the first check that fails.
-#[derive(Clone, Copy)]
-pub enum Reading {
-    Accepted(Message),
-    Refused(u8),
-}
-
-pub fn read(bytes: &[u8]) -> Reading
+pub fn read(bytes: &[u8]) -> Result<Message, Refusal>
     ensures { Found bytes.now result }
 {
-    if bytes.len() != 32 {
-        return Reading::Refused(13);
-    }
-    let m = fields(bytes);
-    if is_derived(bytes) & m.is_admitted() {
-        Reading::Accepted(m)
+    let Some(record) = bytes.as_array::<32>() else {
+        return Err(Refusal::MessageLength);
+    };
+    let m = fields(record);
+    if is_derived(record) & m.is_admitted() {
+        Ok(m)
     } else {
-        Reading::Refused(14)
+        Err(Refusal::MessageFields)
     }
 }
 
@@ -55,88 +48,65 @@ pub fn fields(bytes: &[u8]) -> Message
         quality: wire::byte_at(bytes, 4),
         roadtype: wire::byte_at(bytes, 5),
         since: wire::byte_at(bytes, 7),
-        event: wire::word32(bytes, 8),
-        detection: wire::word32(bytes, 12),
-        reference: wire::word32(bytes, 16),
+        event: wire::word_at(bytes, 8),
+        detection: wire::word_at(bytes, 12),
+        reference: wire::word_at(bytes, 16),
         position: Position {
-            east: wire::signed(wire::word32(bytes, 20)),
-            north: wire::signed(wire::word32(bytes, 24)),
+            east: wire::word_at(bytes, 20),
+            north: wire::word_at(bytes, 24),
         },
-        heading: wire::word16(bytes, 28),
-        validity: wire::word16(bytes, 30),
+        heading: wire::word_at(bytes, 28),
+        validity: wire::word_at(bytes, 30),
     }
 }
 
-pub fn write(m: Message, out: &mut [u8]) -> Answer
+pub fn write(m: Message, out: &mut [u8]) -> Result<usize, Refusal>
     ensures { Written m out.old result out.new }
 {
     if out.len() < 32 {
-        return Answer::Refused(2);
+        return Err(Refusal::OutputRoom);
     }
     if !m.is_admitted() {
-        return Answer::Refused(14);
+        return Err(Refusal::MessageFields);
     }
-    let bytes = encoded(m);
-    wire::copy_at(out, 0, &bytes);
-    Answer::Given(1)
+    wire::copy_at(out, 0, &encoded(m));
+    Ok(1)
 }
 
-// The bytes of a message, whatever its fields.
+// The bytes of a message, whatever its fields. A function and no From: its name says at each caller which bytes they are.
 pub fn encoded(m: Message) -> [u8; 32]
     ensures { result ≡ encode m }
 {
     let row = warnings::row_of(m.warning);
-    let w = warnings::direction_of(m.roadtype);
-    let p = m.position;
-    let e = wire::bytes32(m.event);
-    let d = wire::bytes32(m.detection);
-    let f = wire::bytes32(m.reference);
-    let x = wire::bytes32(wire::unsigned(p.east));
-    let y = wire::bytes32(wire::unsigned(p.north));
-    let h = wire::bytes16(m.heading);
-    let v = wire::bytes16(m.validity);
-    [
+    let direction = warnings::direction_of(m.roadtype);
+    let first = [
         m.kind,
         m.warning,
         row.subcause,
         row.cause,
         m.quality,
         m.roadtype,
-        w,
+        direction,
         m.since,
-        e[0],
-        e[1],
-        e[2],
-        e[3],
-        d[0],
-        d[1],
-        d[2],
-        d[3],
-        f[0],
-        f[1],
-        f[2],
-        f[3],
-        x[0],
-        x[1],
-        x[2],
-        x[3],
-        y[0],
-        y[1],
-        y[2],
-        y[3],
-        h[0],
-        h[1],
-        v[0],
-        v[1],
-    ]
+    ];
+    let mut bytes = [0; 32];
+    wire::copy_at(&mut bytes, 0, &first);
+    wire::copy_at(&mut bytes, 8, &m.event.to_bytes());
+    wire::copy_at(&mut bytes, 12, &m.detection.to_bytes());
+    wire::copy_at(&mut bytes, 16, &m.reference.to_bytes());
+    wire::copy_at(&mut bytes, 20, &m.position.east.to_bytes());
+    wire::copy_at(&mut bytes, 24, &m.position.north.to_bytes());
+    wire::copy_at(&mut bytes, 28, &m.heading.to_bytes());
+    wire::copy_at(&mut bytes, 30, &m.validity.to_bytes());
+    bytes
 }
 
 impl Message {
     // Whether each field has a value that refusal 14 lets pass.
+    #[tactic(auto, unfolding(crate::specs::Message::admits, crate::specs::Message::field_tests, wire::specs::Tests::all_hold, warnings::specs::Warnings::validity_of))]
     pub fn is_admitted(self) -> bool
         ensures { result ≡ admits self }
     {
-        let p = self.position;
         let row = warnings::row_of(self.warning);
         (NEW <= self.kind)
             & (self.kind <= row.kinds)
@@ -151,15 +121,15 @@ impl Message {
             & (self.reference <= 9999999)
             & (self.detection <= self.reference)
             & ((self.kind == CANCEL) | (self.detection == self.reference))
-            & !p.beyond_limit()
+            & !self.position.beyond_limit()
             & (self.heading <= 3601)
             & ((self.validity == row.validityon) | (self.validity == row.validityoff))
     }
 }
 
 // Whether sub cause, cause and direction are those of the warning and the road type.
-fn is_derived(s: &[u8]) -> bool
-    requires { length s.now ≡ 32 }
+#[tactic(auto, unfolding(crate::specs::Message::derived_fit, wire::specs::Tests::all_hold))]
+fn is_derived(s: &[u8; 32]) -> bool
     ensures { result ≡ derived_fit s.now }
 {
     let row = warnings::row_of(s[1]);

@@ -6,19 +6,12 @@ ghost use Rattle.history.specs.State.{fresh};
 ghost use Rattle.history.specs.Ranges.{standing_in_range, within, state_in_range};
 
 use filter::Filter;
-use history::{Cycle, Log, Notice, RUNS, State};
+use history::{Log, NO_CYCLE, RUNS, State};
+use message::Message;
 use warnings::CANCEL;
 
-const NO_CYCLE: Cycle = Cycle {
-    ticks: 0,
-    park: false,
-    idle: false,
-    brake: false,
-    belt: false,
-    expiring: false,
-};
-
 // The state of an engine that has taken no sample.
+#[tactic(auto, unfolding(history::specs::State::fresh))]
 pub fn fresh_state() -> State
     ensures { result ≡ fresh }
 {
@@ -30,7 +23,7 @@ pub fn fresh_state() -> State
         stoppedcycle: NO_CYCLE,
         brokendowncycle: NO_CYCLE,
         log: Log {
-            standing: Notice::Nothing,
+            standing: None,
             started: 0,
             counted: 0,
             lastcancel: 0,
@@ -39,48 +32,39 @@ pub fn fresh_state() -> State
     }
 }
 
-fn standing_in_range(n: u32, standing: Notice) -> bool
+#[tactic(auto, unfolding(history::specs::Ranges::standing_in_range))]
+fn standing_in_range(n: u32, standing: Option<Message>) -> bool
     ensures { result ≡ standing_in_range n standing }
 {
-    match standing {
-        Notice::Nothing => true,
-        Notice::Sent(m) => m.is_admitted() & !(m.kind == CANCEL) & (m.reference < n),
-    }
+    standing.is_none_or(|m| m.is_admitted() && m.kind != CANCEL && m.reference < n)
 }
 
-fn runs_within(n: u32, runs: [u32; RUNS]) -> bool
-    ensures { result ≡ within n runs }
+// Whether none of the counts is above n.
+#[tactic(auto, unfolding(history::specs::Ranges::within))]
+fn within(n: u32, counts: &[u32]) -> bool
+    ensures { result ≡ within n counts.now }
 {
-    let mut all = true;
-    let mut i = 0;
-    while i < RUNS {
-        all = all & (runs[i] <= n);
-        i += 1;
-    }
-    all
+    counts.iter().all(|count| *count <= n)
 }
 
-// Whether refusal 21 lets a state pass. The runs are done with first, so that none is kept over the message's test.
+// Whether refusal 21 lets a state pass. The counts are done with first, so that none is kept over the message's test.
+#[tactic(auto, unfolding(history::specs::Ranges::state_in_range, history::specs::Ranges::within))]
 pub fn state_in_range(s: State) -> bool
     ensures { result ≡ state_in_range s }
 {
     let n = s.taken;
-    let runs = s.runs;
-    if !runs_within(n, runs) {
-        return false;
-    }
-    let f = s.filter;
-    let c1 = s.stoppedcycle;
-    let c2 = s.brokendowncycle;
     let l = s.log;
-    let standing = l.standing;
+    let counts = [
+        s.stoppedcycle.ticks,
+        s.brokendowncycle.ticks,
+        l.started,
+        l.counted,
+        l.lastcancel,
+        l.events,
+    ];
     (n <= 10000000)
-        & f.in_range()
-        & standing_in_range(n, standing)
-        & (c1.ticks <= n)
-        & (c2.ticks <= n)
-        & (l.started <= n)
-        & (l.counted <= n)
-        & (l.lastcancel <= n)
-        & (l.events <= n)
+        && within(n, &counts)
+        && within(n, &s.runs)
+        && s.filter.in_range()
+        && standing_in_range(n, l.standing)
 }

@@ -1,14 +1,15 @@
 -- Numbers in decimal: `decimal n` has digits alone, without a leading zero, and reads back as n; and how many digits it has.
 -- Assumes nothing.
-use mathlib.Core.Path.{◌≡◌, refl}
+use mathlib.Core.Path.{◌≡◌, refl, sym}
 use mathlib.Core.Bool.{Bool, true, false, cond}
 use mathlib.Core.List.{List, [], ◌∷◌, ◌++◌}
 use Prim.Native.Nat.{ℕ, zero, suc, ◌+◌, ◌-◌, ◌*◌, ◌/◌, ◌%◌, ◌^◌, ◌≤◌, ◌<◌}
-use native.Mathlib.Nat.{pow-suc, one-le-pow}
 use native.Mathlib.Omega.{arith}
 use borrow.Author.Tests.{lt-ltb, le-ltb, ltb-true, ltb-false}
 use lib.Dec.{ltb}
 use lib.ListN.{length, get_or, length-append, get_or-append}
+use Rattle.std.specs.Fmt as library
+use Rattle.std.proofs.lemmas.Fmt.{AppendsLastDigit, decimal_from_appends, length-decimal-le, length-decimal-le_succ}
 use Rattle.report.specs.Lines.{ascii, digit, digits, decimal, Digits, value_from}
 
 -- ---- the two equations of `decimal`, and induction along them
@@ -84,51 +85,25 @@ decimal_no_leading_zero = by_tens (λ n. 0 < n → digit 0 < get_or (decimal n) 
     (λ n h p. rw (decimal_small n h) (omega arith))
     (λ n h k p. rw (decimal_large n h, get_or-append (decimal (n / 10)) (digit (n % 10) ∷ []) 0 0 (decimal_some (n / 10))) (k (omega arith)))
 
--- ---- how many digits
+-- ---- the digits that the library writes
 
-pub length_small : (n : ℕ) → n < 10 → length (decimal n) ≡ 1
-length_small n h = rw (decimal_small n h)
+last_digit_behind : AppendsLastDigit digits
+unfolding digits
+last_digit_behind = record {
+  one = λ k n h. simp (lt-ltb _ _ h);
+  more = λ k n h. simp (le-ltb _ _ h);
+}
 
-pub length_large : (n : ℕ) → 10 ≤ n → length (decimal n) ≡ length (decimal (n / 10)) + 1
-length_large n h = rw (decimal_large n h) (length-append (decimal (n / 10)) (digit (n % 10) ∷ []))
+-- a number that a machine holds has the same digits there
+pub library_decimal : (n : ℕ) → n < 2 ^ 64 → library.decimal n ≡ decimal n
+unfolding decimal
+library_decimal n h =
+    let few : length (library.decimal n) ≤ suc n = omega (arith, length-decimal-le_succ n h) in
+    sym (decimal_from_appends digits last_digit_behind (suc n) n h few)
 
--- a number below 10 ^ (k + 1) has at most k + 1 digits
-at_most_large : (n k : ℕ) → 10 ≤ n → ((j : ℕ) → n / 10 < 10 ^ suc j → length (decimal (n / 10)) ≤ suc j)
-    → n < 10 ^ suc k → length (decimal n) ≤ suc k
-at_most_large n zero h next g = absurd (omega arith)
-at_most_large n (suc k) h next g =
-    let m : n < 10 ^ suc k * 10 = rw pow-suc at g in
-    let l = next k (omega arith) in
-    omega (arith, length_large n h)
+-- so a number of 32 bits has at most ten, and one of 8 bits at most three
+pub decimal_at_most_10 : (n : ℕ) → n < 2 ^ 32 → length (decimal n) ≤ 10
+decimal_at_most_10 n h = rw (← library_decimal n (omega arith)) (length-decimal-le 10 n (omega arith) (omega arith) (omega arith))
 
-pub length_at_most : (k n : ℕ) → n < 10 ^ suc k → length (decimal n) ≤ suc k
-length_at_most k n = by_tens (λ n. (k : ℕ) → n < 10 ^ suc k → length (decimal n) ≤ suc k)
-    (λ n h k g. omega (arith, length_small n h))
-    (λ n h next k g. at_most_large n k h next g)
-    n k
-
--- a number from 10 ^ k on has more than k digits
-at_least_large : (n k : ℕ) → 10 ≤ n → ((j : ℕ) → 10 ^ j ≤ n / 10 → j < length (decimal (n / 10)))
-    → 10 ^ k ≤ n → k < length (decimal n)
-at_least_large n zero h next g = decimal_some n
-at_least_large n (suc k) h next g =
-    let m : 10 ^ k * 10 ≤ n = rw pow-suc at g in
-    let l = next k (omega arith) in
-    omega (arith, length_large n h)
-
-at_least_small : (n k : ℕ) → n < 10 → 10 ^ k ≤ n → k < length (decimal n)
-at_least_small n zero h g = decimal_some n
-at_least_small n (suc k) h g =
-    let m : 10 ^ k * 10 ≤ n = rw pow-suc at g in
-    let p = one-le-pow k 10 (omega arith) in
-    absurd (omega arith)
-
-pub length_at_least : (k n : ℕ) → 10 ^ k ≤ n → k < length (decimal n)
-length_at_least k n = by_tens (λ n. (k : ℕ) → 10 ^ k ≤ n → k < length (decimal n))
-    (λ n h k g. at_least_small n k h g)
-    (λ n h next k g. at_least_large n k h next g)
-    n k
-
--- so a number from 10 ^ k on and below 10 ^ (k + 1) has k + 1 digits
-pub length_between : (k n : ℕ) → 10 ^ k ≤ n → n < 10 ^ suc k → suc k ≡ length (decimal n)
-length_between k n h g = omega (arith, length_at_most k n g, length_at_least k n h)
+pub decimal_at_most_3 : (n : ℕ) → n < 2 ^ 8 → length (decimal n) ≤ 3
+decimal_at_most_3 n h = rw (← library_decimal n (omega arith)) (length-decimal-le 3 n (omega arith) (omega arith) (omega arith))

@@ -1,5 +1,4 @@
 pub mod Decimal
-pub mod Placed
 pub mod LineLengths
 pub mod LineWritten
 pub mod ExamplesHold

@@ -9,7 +9,7 @@ use lib.ListN.{length, length-append}
 use Rattle.warnings.specs.Warnings.{new, update, cancel}
 use Rattle.message.specs.declared.Message.{Message}
 use Rattle.report.specs.Lines.{ascii, decimal, line, letter_of, message_line, closing_line, refusal_line}
-use Rattle.report.proofs.Decimal.{length_at_most}
+use Rattle.report.proofs.Decimal.{decimal_at_most_10, decimal_at_most_3}
 
 letter_length : (kind : ℕ) → length (letter_of kind) ≡ 1
 unfolding letter_of ascii
@@ -33,25 +33,13 @@ pub refusal_length : (number : ℕ) → length (decimal number) + 9 ≡ length (
 unfolding refusal_line line ascii
 refusal_length number = simp length-append (omega arith)
 
--- the same of the lengths that `width` counts
-pub message_size : (m : Message) {a b c d : ℕ} → a ≡ length (decimal m.reference) → b ≡ length (decimal m.warning) → c ≡ length (decimal m.quality) → d ≡ length (decimal m.event)
-    → a + b + c + d + 6 ≡ length (message_line m)
-message_size m e f g h = omega (arith, message_length m)
-
-pub closing_size : (ticks messages : ℕ) {a b : ℕ} → a ≡ length (decimal ticks) → b ≡ length (decimal messages) → a + b + 17 ≡ length (closing_line ticks messages)
-closing_size ticks messages e f = omega (arith, closing_length ticks messages)
-
-pub refusal_size : (number : ℕ) {a : ℕ} → a ≡ length (decimal number) → a + 9 ≡ length (refusal_line number)
-refusal_size number e = omega (arith, refusal_length number)
-
 -- the numbers of a message fit their fields, so its line is at most 10 + 1 + 1 + 1 + 3 + 1 + 3 + 1 + 10 + 1 bytes long
 pub message_line_at_most_32 : (m : Message) → m.reference < 2 ^ 32 → m.warning < 2 ^ 8 → m.quality < 2 ^ 8 → m.event < 2 ^ 32 → length (message_line m) ≤ 32
 message_line_at_most_32 m r w q e =
-    omega (arith, message_length m, length_at_most 9 m.reference (omega arith), length_at_most 2 m.warning (omega arith), length_at_most 2 m.quality (omega arith), length_at_most 9 m.event (omega arith))
+    omega (arith, message_length m, decimal_at_most_10 m.reference r, decimal_at_most_3 m.warning w, decimal_at_most_3 m.quality q, decimal_at_most_10 m.event e)
 
 pub closing_line_at_most_37 : (ticks messages : ℕ) → ticks < 2 ^ 32 → messages < 2 ^ 32 → length (closing_line ticks messages) ≤ 37
-closing_line_at_most_37 ticks messages t m =
-    omega (arith, closing_length ticks messages, length_at_most 9 ticks (omega arith), length_at_most 9 messages (omega arith))
+closing_line_at_most_37 ticks messages t m = omega (arith, closing_length ticks messages, decimal_at_most_10 ticks t, decimal_at_most_10 messages m)
 
 pub refusal_line_at_most_12 : (number : ℕ) → number < 2 ^ 8 → length (refusal_line number) ≤ 12
-refusal_line_at_most_12 number n = omega (arith, refusal_length number, length_at_most 2 number (omega arith))
+refusal_line_at_most_12 number n = omega (arith, refusal_length number, decimal_at_most_3 number n)

@@ -1,4 +1,3 @@
-pub mod Limits
 pub mod SampleBytes
 pub mod SampleRead
 pub mod AcceptedFields

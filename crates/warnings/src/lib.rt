@@ -4,7 +4,8 @@
 ghost use Rattle.std.specs.Prelude.{◌≡◌};
 ghost use Rattle.warnings.specs.Warnings.{row_of, validity_of, road_type_of, direction_of};
 
-// The kinds of a message.
+// The kinds of a message, and below its warnings. Both are bytes of the record, which may hold any byte there: the writer answers for
+// each, refusal 14, and an enum would be turned into its byte wherever it is used.
 pub const NEW: u8 = 1;
 
 pub const UPDATE: u8 = 2;

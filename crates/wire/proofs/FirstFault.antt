@@ -8,8 +8,10 @@ use native.Mathlib.Omega.{arith}
 use borrow.Author.Tests.{eq-eqb, ne_eqb, eqb-true, eqb-false}
 use lib.Dec.{eqb}
 use Rattle.wire.specs.Memory.{overlay, memory}
-use Rattle.wire.specs.Outcome.{Check, first_fault, accepted, refused, outcome, answered}
-use Rattle.wire.specs.declared.Answer.TheVariants.{Given, Refused}
+use Rattle.std.specs.Prelude.{Result, Ok, Err}
+use Rattle.std.specs.Result.{IsErrAnd}
+use Rattle.wire.specs.Outcome.{Check, first_fault, accepted, refused, outcome, number_of, Answer, answered, fault_of}
+use Rattle.wire.specs.declared.Refusal.{Refusal}
 
 module _ {A : Type 0} (fault : ℕ) (value : A) where
   pub outcome_accepted : fault ≡ 0 → outcome fault value ≡ accepted value
@@ -90,14 +92,52 @@ module _ (fault : ℕ) (bytes out : List ℕ) where
   unfolding memory
   memory_refused e = simp (ne_eqb _ _ e)
 
+-- no refusal has the number 0, which says that none is
+pub numbered : (r : Refusal) → number_of r ≡ 0 → ⊥
+numbered r e = grind arith
+
+-- each check has a refusal
+abbrev pub Named : List Check → Type 0
+Named [] = Unit {0}
+Named (c ∷ cs) = ((r : Refusal) × (number_of r ≡ c.number)) × Named cs
+
+pub named_append : (cs ds : List Check) → Named cs → Named ds → Named (cs ++ ds)
+named_append [] ds h k = k
+named_append (c ∷ cs) ds h k = (h.0, named_append cs ds h.1 k)
+
+-- the answer of a call with these checks
+pub answer_made : (cs : List Check) (value : ℕ) → Named cs → (r : Answer) × (answered r ≡ outcome (first_fault cs) value)
+unfolding first_fault answered outcome
+answer_made [] value h = (Ok value, refl)
+answer_made (c ∷ cs) value h = go c.fails (answer_made cs value h.1)
+  where
+    go : (b : Bool) → (r : Answer) × (answered r ≡ outcome (first_fault cs) value)
+        → (r : Answer) × (answered r ≡ outcome (cond b c.number (first_fault cs)) value)
+    go true rest = (Err h.0.0, ap refused h.0.1 ∙ sym (outcome_refused c.number value (λ z. numbered h.0.0 (h.0.1 ∙ z))))
+    go false rest = rest
+
+-- what `?` hands on is the refusal that it met
+pub fault_passed : {A : Type 0} (r : Result A Refusal) (e : Refusal) → IsErrAnd r (λ x. x ≡ e) → fault_of r ≡ number_of e
+fault_passed (Ok x) e h = absurd h
+fault_passed (Err f) e h = ap number_of h
+
+pub is_passed : {A : Type 0} (r : Result A Refusal) (e : Refusal) → IsErrAnd r (λ x. x ≡ e) → Err e ≡ r
+is_passed (Ok x) e h = absurd h
+is_passed (Err f) e h = ap Err (sym h)
+
+pub answered_passed : {A : Type 0} (r : Result A Refusal) (e : Refusal) → IsErrAnd r (λ x. x ≡ e) → answered r ≡ refused (number_of e)
+unfolding answered
+answered_passed (Ok x) e h = absurd h
+answered_passed (Err f) e h = ap (λ (g : Refusal). refused (number_of g)) h
+
 -- answer and memory together, as a call's contract asks for them
 module _ (fault value : ℕ) (bytes out : List ℕ) where
-  pub call_refused : (n : ℕ) → (n ≡ 0 → ⊥) → fault ≡ n → (answered (Refused n) ≡ outcome fault value) × (out ≡ memory fault bytes out)
+  pub call_refused : (r : Refusal) → fault ≡ number_of r → (answered (Err r) ≡ outcome fault value) × (out ≡ memory fault bytes out)
   unfolding answered
-  call_refused n h e =
-      let f : fault ≡ 0 → ⊥ = λ z. h (sym e ∙ z) in
+  call_refused r e =
+      let f : fault ≡ 0 → ⊥ = λ z. numbered r (sym e ∙ z) in
       (sym (outcome_refused fault value f ∙ ap refused e), sym (memory_refused fault bytes out f))
 
-  pub call_accepted : (last : List ℕ) → fault ≡ 0 → last ≡ overlay bytes out → (answered (Given value) ≡ outcome fault value) × (last ≡ memory fault bytes out)
+  pub call_accepted : (last : List ℕ) → fault ≡ 0 → last ≡ overlay bytes out → (answered (Ok value) ≡ outcome fault value) × (last ≡ memory fault bytes out)
   unfolding answered
   call_accepted last e f = (sym (outcome_accepted fault value e), f ∙ sym (memory_accepted fault bytes out e))

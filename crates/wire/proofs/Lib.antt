@@ -5,3 +5,4 @@ pub mod Splice
 pub mod FirstFault
 pub mod Tests
 pub mod Places
+pub mod FromFn

@@ -7,7 +7,7 @@ use native.Mathlib.Nat.{add-zero, zero-add, le_refl, add_assoc}
 use native.Mathlib.Omega.{arith}
 use borrow.Author.Tests.{le-leb, lt-leb}
 use lib.ListN.{length, take, drop, take-append-drop, length-append}
-use lib.Seq.{paste, take-length, length-paste, take-paste, drop-paste, drop-drop, take-append-le, drop-append-le, take-append_seam}
+use lib.Seq.{paste, take-length, length-paste, take-paste, drop-paste, drop-drop, take-append_seam}
 use Rattle.wire.specs.Memory.{splice, overlay}
 
 -- bytes that do not fit leave the memory as it is
@@ -75,17 +75,3 @@ overlay-length bs xs h = ap length (sym (splice-overlay xs bs h)) ∙ splice-len
 pub overlay-take : (bs xs : List ℕ) → take (length bs) (overlay bs xs) ≡ bs
 unfolding overlay
 overlay-take bs xs = take-append_seam bs (drop (length bs) xs)
-
--- bytes copied into what was laid over the start
-pub splice_within : (xs ys bs : List ℕ) (k : ℕ) → k + length bs ≤ length ys → length ys ≤ length xs
-    → splice (overlay ys xs) k bs ≡ overlay (splice ys k bs) xs
-unfolding overlay
-splice_within xs ys bs k h room =
-    let r = drop (length ys) xs in
-    let j : k ≤ length ys = omega arith in
-    splice_parts (overlay ys xs) k bs (omega (arith, overlay-length ys xs room))
-    ∙ ap (λ (l : List ℕ). l ++ bs ++ drop (k + length bs) (ys ++ r)) (take-append-le k ys r j)
-    ∙ ap (λ (l : List ℕ). take k ys ++ bs ++ l) (drop-append-le (k + length bs) ys r h)
-    ∙ sym (append_assoc (take k ys ++ bs) (drop (k + length bs) ys) r)
-    ∙ ap (λ (l : List ℕ). l ++ r) (sym (splice_parts ys k bs h))
-    ∙ ap (λ (n : ℕ). splice ys k bs ++ drop n xs) (sym (splice-length ys k bs h))

@@ -2,7 +2,7 @@
 -- Assumes nothing.
 use mathlib.Core.Path.{◌≡◌, refl, ◌∙◌}
 use mathlib.Core.Bool.{Bool, true, false}
-use mathlib.Core.List.{List, [], ◌∷◌}
+use mathlib.Core.List.{List}
 use Prim.Native.Nat.{ℕ, zero, suc, ◌+◌, ◌*◌, ◌/◌, ◌%◌, ◌^◌, ◌≤◌, ◌<◌}
 use native.Mathlib.Nat.{pow-suc, div-lt_iff_lt-mul}
 use native.Mathlib.Numerals.{add-one}
@@ -61,22 +61,6 @@ bytes_at_part (suc k) s p h =
 -- all the bytes
 pub bytes_at_all : (s : List ℕ) (n : ℕ) → length s ≡ n → bytes_at n s 0 ≡ s
 bytes_at_all s n h = bytes_at_part n s 0 (omega arith) ∙ take_all n s (omega arith)
-
--- the number at a place, from its bytes one by one
-pub word16_made : (s : List ℕ) (p a b : ℕ) → a ≡ get_or s (p + 0) 0 → b ≡ get_or s (p + 1) 0 → little (a ∷ b ∷ []) ≡ word 2 s p
-unfolding bytes_at
-word16_made s p a b e f =
-    let z : p + 0 ≡ p = omega arith in
-    rw (e, f, z)
-
-pub word32_made : (s : List ℕ) (p a b c d : ℕ) → a ≡ get_or s (p + 0) 0 → b ≡ get_or s (p + 1) 0 → c ≡ get_or s (p + 2) 0 → d ≡ get_or s (p + 3) 0
-    → little (a ∷ b ∷ c ∷ d ∷ []) ≡ word 4 s p
-unfolding bytes_at
-word32_made s p a b c d e f g h =
-    let z : p + 0 ≡ p = omega arith in
-    let two : p + 1 + 1 ≡ p + 2 = omega arith in
-    let three : p + 2 + 1 ≡ p + 3 = omega arith in
-    rw (two, three, e, f, g, h, z)
 
 -- the bytes at a place are the same in lists that have the same bytes there
 pub bytes_at_same : (k : ℕ) (s t : List ℕ) (p : ℕ) → ((i : ℕ) → i < p + k → get_or s i 0 ≡ get_or t i 0) → bytes_at k s p ≡ bytes_at k t p

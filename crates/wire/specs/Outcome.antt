@@ -1,8 +1,8 @@
 -- A call's outcome: accepted with a value, or refused with a number, "the number of its first failing check".
 -- Assumes nothing.
-use Rattle.std.specs.Prelude.{ℕ, Bool, cond, List, [], ◌∷◌, eqb}
-use Rattle.wire.specs.declared.Answer.{Answer}
-use Rattle.wire.specs.declared.Answer.TheVariants.{Given, Refused}
+use Rattle.std.specs.Prelude.{ℕ, Bool, cond, List, [], ◌∷◌, eqb, Result, Ok, Err}
+use Rattle.wire.specs.declared.Refusal.{Refusal}
+use Rattle.wire.specs.declared.Refusal.TheVariants.{InputLength, OutputRoom, Speed, Gear, Happenings, Road, Heading, Position, Count, NotZero, CheckSum, FirstTick, MessageLength, MessageFields, EngineState, TicksUsedUp, TickOutOfTurn}
 
 -- a check: its number in document 01, and whether it fails
 pub record Check : Type 0 where
@@ -25,12 +25,41 @@ pub data Outcome (A : Type 0) : Type 0 where
 unfoldable pub outcome : {A : Type 0} → ℕ → A → Outcome A
 outcome fault value = cond (eqb fault 0) (accepted value) (refused fault)
 
--- the count or the refusal number that an answer stands for
-unfoldable pub answered : Answer → Outcome ℕ
-answered (Given n) = accepted n
-answered (Refused n) = refused n
+-- the number of a refusal, "What is turned down"
+abbrev pub number_of : Refusal → ℕ
+number_of InputLength = 1
+number_of OutputRoom = 2
+number_of Speed = 3
+number_of Gear = 4
+number_of Happenings = 5
+number_of Road = 6
+number_of Heading = 7
+number_of Position = 8
+number_of Count = 9
+number_of NotZero = 10
+number_of CheckSum = 11
+number_of FirstTick = 12
+number_of MessageLength = 13
+number_of MessageFields = 14
+number_of EngineState = 21
+number_of TicksUsedUp = 22
+number_of TickOutOfTurn = 23
+
+-- what a call answers that writes records: how many it wrote, or why it wrote none
+abbrev pub Answer : Type 0
+Answer = Result ℕ Refusal
+
+-- the value or the refusal number that a result stands for
+unfoldable pub answered : {A : Type 0} → Result A Refusal → Outcome A
+answered (Ok x) = accepted x
+answered (Err r) = refused (number_of r)
+
+-- the number of the check that refuses, 0 where none does
+abbrev pub fault_of : {A : Type 0} → Result A Refusal → ℕ
+fault_of (Ok x) = 0
+fault_of (Err r) = number_of r
 
 -- the count of an answer, 0 for a refusal
 unfoldable pub given_count : Answer → ℕ
-given_count (Given n) = n
-given_count (Refused n) = 0
+given_count (Ok n) = n
+given_count (Err r) = 0

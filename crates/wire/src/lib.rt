@@ -1,28 +1,137 @@
-// What every record shares: a call's answer, little-endian words, signed numbers, and copying into lent memory.
+// What every record shares: refusals, little-endian words, and copying into lent memory.
 #![tactic(auto)]
 
-ghost use Rattle.std.specs.Prelude.{◌≡◌, [], ◌∷◌, ◌+◌, get_or};
+ghost use Rattle.std.specs.Prelude.{◌≡◌, ℕ, ◌+◌, ◌^◌, ◌<◌, get_or, replicate};
 ghost use Rattle.std.specs.Int.{w32};
-ghost use Rattle.std.proofs.Common.{to_z, of_z};
-ghost use Rattle.wire.specs.Words.{little, bytes_of, word};
+ghost use Rattle.std.proofs.Common.{rules, refl, to_z, of_z};
+ghost use Rattle.std.proofs.lemmas.Int.{of_z-to_z};
+ghost use Rattle.wire.specs.Words.{little, bytes_of, bytes_at, word};
 ghost use Rattle.wire.specs.Memory.{splice};
-ghost use Rattle.wire.specs.Outcome.{given_count};
+ghost use Rattle.wire.specs.Outcome.{number_of, given_count};
 
-// What a call that writes records answers: how many it wrote, or why it wrote none.
-#[derive(Clone, Copy)]
-pub enum Answer {
-    Given(usize),
-    Refused(u8),
+use std::array;
+
+// Why a call is refused. What it counts or finds otherwise is the `Ok` of its result.
+#[derive(Clone, Copy, Debug, PartialEq, Eq)]
+pub enum Refusal {
+    InputLength = 1,
+    OutputRoom = 2,
+    Speed = 3,
+    Gear = 4,
+    Happenings = 5,
+    Road = 6,
+    Heading = 7,
+    Position = 8,
+    Count = 9,
+    NotZero = 10,
+    CheckSum = 11,
+    FirstTick = 12,
+    MessageLength = 13,
+    MessageFields = 14,
+    EngineState = 21,
+    TicksUsedUp = 22,
+    TickOutOfTurn = 23,
 }
 
-// The count of an answer, 0 for a refusal.
+impl From<Refusal> for u8 {
+    ghost from_gives = { λ r n. n ≡ number_of r };
+
+    fn from(refusal: Refusal) -> u8 {
+        refusal as u8
+    }
+}
+
+// How many records a call wrote, 0 where it is refused.
 #[tactic(auto, unfolding(crate::specs::Outcome::given_count))]
-pub fn given_count(answer: Answer) -> usize
+pub fn given_count(answer: Result<usize, Refusal>) -> usize
     ensures { result ≡ given_count answer }
 {
-    match answer {
-        Answer::Given(n) => n,
-        Answer::Refused(_) => 0,
+    answer.unwrap_or(0)
+}
+
+// A number that a record holds in `N` bytes, the lowest byte first.
+pub trait Word<const N: usize>: Copy {
+    // The unsigned number in the bytes of a word, and the word with that number.
+    ghost number: { Self → ℕ };
+
+    ghost word_of: { ℕ → Self };
+
+    fn from_bytes(bytes: [u8; N]) -> Self
+        ensures { result ≡ word_of (little bytes.entry) };
+
+    fn to_bytes(self) -> [u8; N]
+        ensures { result ≡ bytes_of N (number self) };
+
+    // The word with a number of `N` bytes has that number, and no array is longer than `short` says.
+    ghost has_number: { (n : ℕ) → n < 256 ^ N → number (word_of n) ≡ n };
+
+    ghost short: { N < 2 ^ 63 };
+}
+
+impl Word<2> for u16 {
+    ghost number = { λ n. n };
+
+    ghost word_of = { λ n. n };
+
+    ghost has_number = { λ n h. refl };
+
+    ghost short = { Prim.search rules };
+
+    #[tactic(auto, unfolding(crate::specs::Words::little))]
+    fn from_bytes(bytes: [u8; 2]) -> u16
+        ensures { result ≡ little bytes }
+    {
+        u16::from_le_bytes(bytes)
+    }
+
+    #[tactic(auto, unfolding(crate::specs::Words::bytes_of))]
+    fn to_bytes(self) -> [u8; 2] {
+        u16::to_le_bytes(self)
+    }
+}
+
+impl Word<4> for u32 {
+    ghost number = { λ n. n };
+
+    ghost word_of = { λ n. n };
+
+    ghost has_number = { λ n h. refl };
+
+    ghost short = { Prim.search rules };
+
+    #[tactic(auto, unfolding(crate::specs::Words::little))]
+    fn from_bytes(bytes: [u8; 4]) -> u32
+        ensures { result ≡ little bytes }
+    {
+        u32::from_le_bytes(bytes)
+    }
+
+    #[tactic(auto, unfolding(crate::specs::Words::bytes_of))]
+    fn to_bytes(self) -> [u8; 4] {
+        u32::to_le_bytes(self)
+    }
+}
+
+// Two's complement.
+impl Word<4> for i32 {
+    ghost number = { of_z w32 };
+
+    ghost word_of = { to_z w32 };
+
+    ghost has_number = { of_z-to_z w32 };
+
+    ghost short = { Prim.search rules };
+
+    #[tactic(auto, unfolding(crate::specs::Words::little))]
+    fn from_bytes(bytes: [u8; 4]) -> i32
+        ensures { result ≡ to_z w32 (little bytes) }
+    {
+        i32::from_le_bytes(bytes)
+    }
+
+    #[tactic(auto, unfolding(crate::specs::Words::bytes_of))]
+    fn to_bytes(self) -> [u8; 4] {
+        i32::to_le_bytes(self)
     }
 }
 
@@ -30,98 +139,38 @@ pub fn given_count(answer: Answer) -> usize
 pub fn byte_at(bytes: &[u8], at: usize) -> u8
     ensures { result ≡ get_or bytes.now at 0 }
 {
-    if at < bytes.len() { bytes[at] } else { 0 }
+    bytes.get(at).copied().unwrap_or(0)
 }
 
-// The number in 2 bytes from place `at` on. Bytes beyond the end count as 0.
-pub fn word16(bytes: &[u8], at: usize) -> u16
-    ensures { result ≡ word 2 bytes.now at }
+// The `N` bytes from place `at` on, 0 beyond the end.
+pub fn bytes_at<const N: usize>(bytes: &[u8], at: usize) -> [u8; N]
+    ensures { result ≡ bytes_at N bytes.now at }
 {
-    let a = byte(bytes, at, 0);
-    let b = byte(bytes, at, 1);
-    little16(a, b)
+    array::from_fn(|k| byte(bytes, at, k))
 }
 
-// The number in 4 bytes from place `at` on. Bytes beyond the end count as 0.
-pub fn word32(bytes: &[u8], at: usize) -> u32
-    ensures { result ≡ word 4 bytes.now at }
+// The word in the `N` bytes from place `at` on. Bytes beyond the end count as 0.
+pub fn word_at<const N: usize, W: Word<N>>(bytes: &[u8], at: usize) -> W
+    ensures { result ≡ W.word_of (word N bytes.now at) }
 {
-    let a = byte(bytes, at, 0);
-    let b = byte(bytes, at, 1);
-    let c = byte(bytes, at, 2);
-    let d = byte(bytes, at, 3);
-    little32(a, b, c, d)
-}
-
-// The number that 2 bytes stand for, the lower one first.
-#[tactic(auto, unfolding(crate::specs::Words::little))]
-pub fn little16(a: u8, b: u8) -> u16
-    ensures { result ≡ little (a ∷ b ∷ []) }
-{
-    a as u16 + 256 * (b as u16)
-}
-
-// The number that 4 bytes stand for, the lowest one first.
-#[tactic(auto, unfolding(crate::specs::Words::little))]
-pub fn little32(a: u8, b: u8, c: u8, d: u8) -> u32
-    ensures { result ≡ little (a ∷ b ∷ c ∷ d ∷ []) }
-{
-    a as u32 + 256 * (b as u32) + 65536 * (c as u32) + 16777216 * (d as u32)
+    W::from_bytes(bytes_at(bytes, at))
 }
 
 // The byte `k` places behind place `at`, 0 beyond the end.
 fn byte(bytes: &[u8], at: usize, k: usize) -> u8
     ensures { result ≡ get_or bytes.now (at + k) 0 }
 {
-    if at <= usize::MAX - k {
-        return byte_at(bytes, at + k);
-    }
-    0
-}
-
-#[tactic(auto, unfolding(crate::specs::Words::bytes_of))]
-pub fn bytes16(n: u16) -> [u8; 2]
-    ensures { result ≡ bytes_of 2 n }
-{
-    let n1 = n / 256;
-    [(n % 256) as u8, (n1 % 256) as u8]
-}
-
-#[tactic(auto, unfolding(crate::specs::Words::bytes_of))]
-pub fn bytes32(n: u32) -> [u8; 4]
-    ensures { result ≡ bytes_of 4 n }
-{
-    let n1 = n / 256;
-    let n2 = n1 / 256;
-    let n3 = n2 / 256;
-    [
-        (n % 256) as u8,
-        (n1 % 256) as u8,
-        (n2 % 256) as u8,
-        (n3 % 256) as u8,
-    ]
-}
-
-// The signed number that 32 bits stand for, in two's complement.
-pub fn signed(u: u32) -> i32
-    ensures { result ≡ to_z w32 u }
-{
-    if u < 2147483648 {
-        u as i32
-    } else {
-        -1 - ((4294967295 - u) as i32)
+    match at.checked_add(k) {
+        Some(place) => byte_at(bytes, place),
+        None => 0,
     }
 }
 
-// The 32 bits of a signed number.
-pub fn unsigned(x: i32) -> u32
-    ensures { result ≡ of_z w32 x }
+// Memory that holds zeros.
+pub fn zeros<const N: usize>() -> [u8; N]
+    ensures { result ≡ replicate N 0 }
 {
-    if x < 0 {
-        4294967295 - ((-1 - x) as u32)
-    } else {
-        x as u32
-    }
+    [0; N]
 }
 
 // Copies `bytes` into `out` from place `at` on. Where they do not fit, `out` is left as it is.
@@ -134,9 +183,6 @@ pub fn copy_at(out: &mut [u8], at: usize, bytes: &[u8])
     if out.len() - at < bytes.len() {
         return;
     }
-    let mut i = 0;
-    while i < bytes.len() {
-        out[at + i] = bytes[i];
-        i += 1;
-    }
+    let end = at + bytes.len();
+    out[at..end].copy_from_slice(bytes);
 }

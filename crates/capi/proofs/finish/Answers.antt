@@ -1,19 +1,17 @@
-use mathlib.Core.Path.{refl}
-use Rattle.wire.specs.Outcome.{answered}
-use Rattle.capi.specs.Imaged.{image_kept}
-use Rattle.capi.proofs.Numbers.{given_fits, given_number, refused_number}
+use Rattle.std.proofs.Common.{sym, ◌∙◌, ap}
+use Rattle.wire.specs.Memory.{splice}
+use Rattle.capi.proofs.Numbers.{again}
+use Rattle.capi.proofs.ImageCalls.{kept_accepted, kept_refused}
+use Rattle.capi.proofs.finish.Goals.{then-is_ok, else-is_ok}
 use Rattle.capi.proofs.finish.Goals as goal
 
-pub overflow_cast-result : goal.overflow_cast-result
-overflow_cast-result c =
-    given_fits _ _ c.in-Given.is c.requires
-
-pub returns-in-Refused : goal.returns-in-Refused
-unfolding image_kept answered
-returns-in-Refused c = (refused_number _ _ _ c.in-Refused.is (record { sfits = c.minus.type_inv }) c.minus.ensures, rw c.in-Refused.is refl)
-
-pub returns-in-Given : goal.returns-in-Given
-unfolding image_kept answered
-returns-in-Given c =
-    let e = c.in-Given.is in
-    (given_number _ _ e c.requires, rw (e, ← c.save-bytes.ensures.image) c.copy_at.ensures)
+pub returns : goal.returns
+returns c = (
+  again _ _ (record { sfits = c.number.type_inv }) c.number.ensures,
+  elim c.if-is_ok.branch [
+    | then-is_ok w ↦
+        kept_accepted c.args.called.answer _ _ _ (sym c.is_ok.ensures.value ∙ w.if-is_ok.true)
+        (w.memory-is ∙ w.copy_at.ensures ∙ ap (splice c.args.memory.now 0) w.save.ensures.image)
+    | else-is_ok w ↦ kept_refused c.args.called.answer _ _ _ (sym c.is_ok.ensures.value ∙ w.if-is_ok.false) w.memory-is
+  ],
+)

@@ -1,8 +1,13 @@
-use Rattle.capi.proofs.Numbers.{check_accepted, check_refused}
+use Rattle.std.proofs.Common.{ap, ◌∙◌}
+use Rattle.wire.specs.Outcome.{answered}
+use Rattle.capi.specs.Imaged.{check_number}
+use Rattle.capi.proofs.Numbers.{again}
 use Rattle.capi.proofs.yoldrim_message_check.Goals as goal
 
-pub returns-in-Accepted : goal.returns-in-Accepted
-returns-in-Accepted c = check_accepted _ _ c.read-reading.ensures.found _ c.in-Accepted.is
+pub returns-in-Ok : goal.returns-in-Ok
+unfolding check_number answered
+returns-in-Ok c = ap check_number c.in-Ok.ensures.found
 
-pub returns-in-Refused : goal.returns-in-Refused
-returns-in-Refused c = check_refused _ _ c.read-reading.ensures.found _ _ c.in-Refused.is (record { sfits = c.minus.type_inv }) c.minus.ensures
+pub returns-in-Err : goal.returns-in-Err
+unfolding check_number answered
+returns-in-Err c = again _ _ (record { sfits = c.minus.type_inv }) c.minus.ensures ∙ ap check_number c.in-Err.ensures.found

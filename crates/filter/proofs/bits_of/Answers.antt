@@ -1,8 +1,6 @@
-use Rattle.filter.proofs.FloatBits.{nan_bits, no_nan}
+use Rattle.std.proofs.Common.{sym}
+use Rattle.filter.proofs.FloatBits.{nan_bits}
 use Rattle.filter.proofs.bits_of.Goals as goal
 
-pub float_to_bits-result : goal.float_to_bits-result
-float_to_bits-result c = no_nan _ c.if-f.false
-
-pub returns-then-f : goal.returns-then-f
-returns-then-f c = nan_bits _ c.if-f.true
+pub returns-then-is_nan : goal.returns-then-is_nan
+returns-then-is_nan c = nan_bits _ (sym c.if-is_nan.ensures.value)

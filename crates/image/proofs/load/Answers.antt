@@ -1,24 +1,28 @@
-use mathlib.Core.Path.{ap}
-use mathlib.Core.Bool.{not}
-use Rattle.image.proofs.Loaded.{refused_length, refused_layout, refused_range, refused_bytes, loaded}
+use Rattle.std.proofs.Common.{◌≡◌, length, Result, Err}
+use Rattle.std.specs.Array.{IsWholeChunk}
+use Rattle.wire.specs.declared.Refusal.{Refusal}
+use Rattle.wire.specs.declared.Refusal.TheVariants.{EngineState}
+use Rattle.wire.proofs.FirstFault.{is_passed}
+use Rattle.image.specs.Image.{image_size}
+use Rattle.image.proofs.Loaded.{refused_length, refused_other, loaded}
 use Rattle.image.proofs.load.Goals as goal
 
-pub returns-then-image-ne-BYTES : goal.returns-then-image-ne-BYTES
-returns-then-image-ne-BYTES c = refused_length _ _ c.refusal.ensures c.if-image-ne-BYTES.true
+same_error : {A : Type 0} (e f : Refusal) → ◌≡◌ {A = Result A Refusal} (Err e) (Err f) → e ≡ f
+same_error e f h = cc
 
-pub returns-then-image-ne-LAYOUT : goal.returns-then-image-ne-LAYOUT
-returns-then-image-ne-LAYOUT c = refused_layout _ _ c.refusal-then-image-ne-LAYOUT.ensures c.if-image-ne-BYTES.false c.if-image-ne-LAYOUT.true
+pub returns-in_err-image : goal.returns-in_err-image
+returns-in_err-image c =
+    let none = c.in_err-image.ensures.ok_part in
+    let other : length c.args.image.now ≡ image_size → ⊥ = rw none at c.as_array.ensures.cases in
+    let why = same_error c.in_err-image.field-0.0 EngineState (rw none at c.in_err-image.ensures.value) in
+    rw (← is_passed c.from_residual.result _ c.from_residual.ensures.1, why) (refused_length c.args.image.now other)
 
-pub returns-then-not-state_in_range : goal.returns-then-not-state_in_range
-returns-then-not-state_in_range c =
-    refused_range _ _ c.refusal-then-not-state_in_range.ensures c.if-image-ne-BYTES.false c.if-image-ne-LAYOUT.false _ c.state_in-state.ensures _ c.state_in_range.ensures (ap not c.if-not-state_in_range.true)
+pub returns-then-is_saved : goal.returns-then-is_saved
+returns-then-is_saved c =
+    let whole : IsWholeChunk c.args.image.now c.in_ok-image.image.now image_size = rw c.in_ok-image.ensures.ok_part at c.as_array.ensures.cases in
+    loaded _ _ whole _ c.state_in-state.ensures _ c.is_saved.ensures c.if-is_saved.true
 
-pub returns-then-not-same : goal.returns-then-not-same
-returns-then-not-same c =
-    refused_bytes _ _ c.refusal-then-not-same.ensures c.if-image-ne-BYTES.false c.if-image-ne-LAYOUT.false _ c.state_in-state.ensures _ c.state_in_range.ensures (ap not c.if-not-state_in_range.false)
-    _ c.save-again.ensures.image _ c.same.ensures (ap not c.if-not-same.true)
-
-pub returns : goal.returns
-returns c =
-    loaded _ c.if-image-ne-BYTES.false c.if-image-ne-LAYOUT.false _ c.state_in-state.ensures _ c.state_in_range.ensures (ap not c.if-not-state_in_range.false)
-    _ c.save-again.ensures.image _ c.same.ensures (ap not c.if-not-same.false)
+pub returns-else-is_saved : goal.returns-else-is_saved
+returns-else-is_saved c =
+    let whole : IsWholeChunk c.args.image.now c.in_ok-image.image.now image_size = rw c.in_ok-image.ensures.ok_part at c.as_array.ensures.cases in
+    refused_other _ _ whole _ c.state_in-state.ensures _ c.is_saved.ensures c.if-is_saved.false

@@ -1,4 +1,4 @@
-use mathlib.Core.Path.{◌≡◌}
+use mathlib.Core.Path.{◌≡◌, ◌∙◌}
 use mathlib.Core.List.{List}
 use Prim.Native.Nat.{ℕ}
 use lib.IntN.{ℤ}
@@ -12,10 +12,10 @@ use Rattle.message.specs.declared.Message.{Message}
 use Rattle.message.proofs.fields.Goals as goal
 
 -- the fields, each from what a call gave
-fields_made : (s : List ℕ) (kind warning quality roadtype since event detection reference u v heading validity : ℕ) (east north : ℤ)
+fields_made : (s : List ℕ) (kind warning quality roadtype since event detection reference heading validity : ℕ) (east north : ℤ)
     → kind ≡ get_or s 0 0 → warning ≡ get_or s 1 0 → quality ≡ get_or s 4 0 → roadtype ≡ get_or s 5 0 → since ≡ get_or s 7 0
     → event ≡ word 4 s 8 → detection ≡ word 4 s 12 → reference ≡ word 4 s 16
-    → u ≡ word 4 s 20 → east ≡ to_z w32 u → v ≡ word 4 s 24 → north ≡ to_z w32 v
+    → east ≡ to_z w32 (word 4 s 20) → north ≡ to_z w32 (word 4 s 24)
     → heading ≡ word 2 s 28 → validity ≡ word 2 s 30
     → ◌≡◌ {A = Message} (record {
       kind = kind;
@@ -31,22 +31,19 @@ fields_made : (s : List ℕ) (kind warning quality roadtype since event detectio
       validity = validity;
     }) (message_of s)
 unfolding message_of
-fields_made s kind warning quality roadtype since event detection reference u v heading validity east north a b d e f g h i j k l m n o = simp (a, b, d, e, f, g, h, i, k, j, m, l, n, o)
+fields_made s kind warning quality roadtype since event detection reference heading validity east north a b d e f g h i k m n o = simp (a, b, d, e, f, g, h, i, k, m, n, o)
 
 pub returns : goal.returns
-returns c = rw (signed_again c.signed.result (record { sfits = c.signed.type_inv }), signed_again c.signed-2.result (record { sfits = c.signed-2.type_inv }))
-    (fields_made _ _ _ _ _ _ _ _ _ _ _ _ _ _ _
+returns c = fields_made _ _ _ _ _ _ _ _ _ _ _ _ _
     c.byte_at.ensures
     c.byte_at-2.ensures
     c.byte_at-3.ensures
     c.byte_at-4.ensures
     c.byte_at-5.ensures
-    c.word32.ensures
-    c.word32-2.ensures
-    c.word32-3.ensures
-    c.word32-4.ensures
-    c.signed.ensures
-    c.word32-5.ensures
-    c.signed-2.ensures
-    c.word16.ensures
-    c.word16-2.ensures)
+    c.word_at.ensures
+    c.word_at-2.ensures
+    c.word_at-3.ensures
+    (signed_again c.word_at-4.result (record { sfits = c.word_at-4.type_inv }) ∙ c.word_at-4.ensures)
+    (signed_again c.word_at-5.result (record { sfits = c.word_at-5.type_inv }) ∙ c.word_at-5.ensures)
+    c.word_at-6.ensures
+    c.word_at-7.ensures

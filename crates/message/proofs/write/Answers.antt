@@ -31,4 +31,4 @@ pub returns : goal.returns
 unfolding answered write_fault first_fault outcome memory
 returns c = let room = c.if-out-lt32.false in
     written_promise _ _ _ _ (simp (le-ltb _ _ room, ← c.is_admitted.ensures, c.if-not-is_admitted.false)
-    (refl, written _ _ _ _ c.encoded-bytes.ensures c.copy_at.ensures room))
+    (refl, written _ _ _ _ c.encoded.ensures c.copy_at.ensures room))

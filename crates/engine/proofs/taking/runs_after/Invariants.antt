@@ -1,11 +1,6 @@
-use Prim.Native.Nat.{◌-◌, ◌≤◌}
-use lib.ListN.{length}
 use Rattle.wire.proofs.Places.{Changing}
 use Rattle.history.specs.Runs.{runs_after}
 use Rattle.engine.proofs.taking.runs_after.Given as goal
 
 abbrev pub invariant-loop-i : goal.invariant-loop-i
-invariant-loop-i l = (l.i ≤ length l.initial.runs) × Changing (runs_after l.facts l.initial.runs) l.initial.runs l.runs l.i
-
-abbrev pub decreases-loop-i : goal.decreases-loop-i
-decreases-loop-i l = length l.initial.runs - l.i
+invariant-loop-i l = Changing (runs_after l.facts l.initial.run-items) l.initial.run-items l.run-items l.i
