@@ -89,12 +89,7 @@ fn lent_state(
 ) -> Result<State, Refusal>
     ensures { answered result ≡ outcome (first_fault (check 1 (not (eqb (length bytes.now) size)) ∷ check 2 (ltb room needed) ∷ check 21 (not (is_image memory.now)) ∷ [])) (state_in memory.now) }
 {
-    if bytes.len() != size {
-        return Err(Refusal::InputLength);
-    }
-    if room < needed {
-        return Err(Refusal::OutputRoom);
-    }
+    calls::check_lengths(bytes, size, room, needed)?;
     image::load(memory)
 }
 
@@ -104,6 +99,7 @@ fn minus(refusal: Refusal) -> i32
     -i32::from(u8::from(refusal))
 }
 
+// A function and no `From`: `From` between two types of the library cannot be written here.
 fn number(answer: Result<usize, Refusal>) -> i32
     requires { given_count answer ≤ 50 }
     ensures { result ≡ answer_number (answered answer) }

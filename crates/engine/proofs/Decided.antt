@@ -1,4 +1,4 @@
--- What the rules' functions need of the table: its ticks are few.
+-- What the rules' functions need of the table: the delay is few ticks.
 -- Assumes nothing.
 use mathlib.Core.List.{[], ◌∷◌}
 use Prim.Native.Nat.{ℕ, ◌≤◌}
@@ -9,7 +9,3 @@ use Rattle.warnings.proofs.Table.{any_number}
 pub delay_small : (w : ℕ) → (row_of w).delay ≤ 150
 unfolding row_of
 delay_small w = leb→le _ _ (any_number (λ n. leb n 150) (50 ∷ 50 ∷ 150 ∷ []) w tt)
-
-pub period_small : (w : ℕ) → (row_of w).period ≤ 600
-unfolding row_of
-period_small w = leb→le _ _ (any_number (λ n. leb n 600) (150 ∷ 150 ∷ 600 ∷ []) w tt)

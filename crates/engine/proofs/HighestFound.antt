@@ -3,17 +3,23 @@
 use mathlib.Core.Path.{◌≡◌, refl, sym, ap, ◌∙◌}
 use mathlib.Core.Bool.{Bool, true, false, not, cond}
 use mathlib.Core.List.{List, [], ◌∷◌}
-use Prim.Native.Nat.{ℕ}
+use Prim.Native.Nat.{ℕ, suc, ◌≤◌}
 use borrow.Author.Tests.{not-true}
-use lib.Dec.{T, eqb}
+use lib.Dec.{T, eqb, leb, leb→le}
 use lib.Ieee.Fits.{and_l, and_r}
+use lib.ListN.{get_or}
 use Rattle.std.proofs.Common.{Option, Some, None}
 use Rattle.std.specs.List.{find, list_all}
 use Rattle.wire.proofs.Tests.{holds_true}
-use Rattle.warnings.specs.Warnings.{by_rank}
+use Rattle.warnings.specs.Warnings.{warning_count, by_rank}
+use Rattle.warnings.proofs.Table.{any_number}
 use Rattle.history.specs.declared.View.{View}
 use Rattle.history.specs.declared.Decision.{Decision}
 use Rattle.history.specs.Rules.{Settings, overrules, highest_of, highest, raise, keep, decide}
+
+-- each number of the list has its place in the table
+pub listed_small : (i : ℕ) → get_or by_rank i 0 ≤ warning_count
+listed_small i = leb→le _ _ (any_number (λ n. leb n warning_count) by_rank (suc i) tt)
 
 -- 0 is no warning's number: it stands for none
 abbrev numbered : ℕ → Bool

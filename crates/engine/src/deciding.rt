@@ -175,13 +175,13 @@ impl Seen {
             | distance_exceeded(self.view.sample.position, m.position)
     }
 
-    #[tactic(auto, using(crate::proofs::Decided::period_small), unfolding(history::specs::Rules::update_due))]
+    // A sum held at the greatest number is above every tick as well.
+    #[tactic(auto, unfolding(history::specs::Rules::update_due))]
     fn update_due(self, m: Message) -> bool
-        requires { m.reference ≤ self.view.tick }
         ensures { result ≡ update_due self.view m }
     {
         let period = warnings::row_of(m.warning).period;
-        (m.reference + period <= self.view.tick) | self.view.switchedoff
+        (m.reference.saturating_add(period) <= self.view.tick) | self.view.switchedoff
     }
 
     #[tactic(auto, unfolding(history::specs::Rules::raise, history::specs::Rules::cancel_standing))]

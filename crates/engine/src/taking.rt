@@ -15,7 +15,13 @@ use message::Message;
 use sample::Sample;
 use warnings::{BROKEN_DOWN, STOPPED};
 
-// Which of the facts whose runs are kept are true of the sample, each at the place of its run.
+// The gear codes of a sample that conditions a and b ask for.
+const GEAR_PARK: u8 = 1;
+
+const GEAR_IDLE: u8 = 2;
+
+// Which of the facts whose runs are kept are true of the sample, each at the place of its run. Here and where a cycle or a stretch goes
+// on, `still` stands beside the sample, for the rules' definitions take the two apart: still is of the filter and the speed.
 #[tactic(auto, unfolding(history::specs::Runs::facts, history::specs::Runs::facts_of))]
 fn facts_of(still: bool, x: Sample) -> [bool; RUNS]
     ensures { result ≡ facts_of still x }
@@ -25,8 +31,8 @@ fn facts_of(still: bool, x: Sample) -> [bool; RUNS]
     [
         still,
         !still,
-        x.gear == 1,
-        x.gear == 2,
+        x.gear == GEAR_PARK,
+        x.gear == GEAR_IDLE,
         on.brake,
         !on.belt,
         !on.ignition,
@@ -39,7 +45,8 @@ fn facts_of(still: bool, x: Sample) -> [bool; RUNS]
     ]
 }
 
-// A run whose fact is true goes on by a tick, and any other ends.
+// A run whose fact is true goes on by a tick, and any other ends. The facts are taken by number: over a `zip` of runs and facts the
+// check knew no element of the runs, so that the proof did not close.
 fn runs_after(facts: [bool; RUNS], s: Bounded) -> [u32; RUNS]
     ensures { result ≡ runs_after facts s.state.runs }
 {
@@ -99,6 +106,7 @@ pub(crate) fn rank(warning: u8) -> u8
     warnings::row_of(warning).rank
 }
 
+// 0 where nothing stands, and no Option: 0 is below every warning's rank, so that one comparison answers.
 #[tactic(auto, unfolding(history::specs::Rules::standing_rank))]
 pub(crate) fn standing_rank(standing: Option<Message>) -> u8
     ensures { result ≡ standing_rank standing }

@@ -9,7 +9,7 @@ use history::{MOVING, NO_ECALL, NO_HIGH, NO_LOW, RUNS, STILL, State, View};
 use sample::Sample;
 
 // The highest quality of the happenings from tick `j` on, when `n` samples were taken. The last happening of a kind, if any, came at
-// the tick before the run without one.
+// the tick before the run without one. 0 where none came, and no Option: qualities are compared and stored as the record's own byte.
 #[tactic(auto, unfolding(history::specs::State::quality_from))]
 fn quality_from(j: u32, n: u32, r: [u32; RUNS]) -> u8
     ensures { result ≡ quality_from j n r }

@@ -27,7 +27,7 @@ impl Filter {
             return self;
         }
         match self {
-            Filter::Empty => Filter::Running(reading as f32),
+            Filter::Empty => Filter::Running(f32::from(reading)),
             Filter::Running(f) => Filter::Running(blended(f, reading)),
         }
     }
@@ -57,12 +57,10 @@ impl Filter {
 fn blended(f: f32, reading: u16) -> f32
     ensures { result ≡ blend f (as_f32 reading) }
 {
-    if reading == 0 {
-        if bits_of(f) == REST {
-            return f;
-        }
+    if reading == 0 && bits_of(f) == REST {
+        return f;
     }
-    let x = reading as f32;
+    let x = f32::from(reading);
     f + (x - f) * 0.25
 }
 

@@ -47,7 +47,8 @@ pub struct Conditions {
     pub expiring: bool,
 }
 
-// A detection cycle of warning 1 or 2: its ticks, and the marks of the conditions that were fulfilled at some tick in it.
+// A detection cycle of warning 1 or 2: its ticks, and the marks of the conditions that were fulfilled at some tick in it. A cycle of
+// 0 ticks is none, and no Option: an image may hold marks beside 0 ticks, and such a state is kept and answered as it stands too.
 #[derive(Clone, Copy)]
 pub struct Cycle {
     pub ticks: u32,
@@ -90,7 +91,8 @@ pub struct State {
 }
 
 // What is looked at to decide at a tick. `recent` and `kept` are the highest qualities of the happenings that a New of warning 3
-// counts now, and that the last New counted or that came since.
+// counts now, and that the last New counted or that came since: 0 where none came, and no Option, since qualities are compared and
+// stored as numbers, the record's own byte.
 #[derive(Clone, Copy)]
 pub struct View {
     pub tick: u32,

@@ -2,14 +2,15 @@
 -- Assumes nothing.
 use mathlib.Core.Path.{◌≡◌, refl, sym, ap, ◌∙◌}
 use mathlib.Core.List.{List, [], ◌∷◌, ◌++◌, append_assoc}
-use Prim.Native.Nat.{ℕ, zero, suc, ◌+◌, ◌*◌, ◌^◌, ◌<◌}
+use Prim.Native.Nat.{ℕ, zero, suc, ◌+◌, ◌*◌, ◌^◌, ◌≤◌, ◌<◌}
 use native.Mathlib.Omega.{arith}
-use lib.ListN.{length, get_or}
-use lib.Seq.{get_or-append-add}
+use lib.ListN.{length, get_or, take}
+use lib.Seq.{take_all, get_or-append-add}
 use Rattle.std.proofs.Common.{map, rules}
 use Rattle.std.specs.List.{flat_map}
 use Rattle.std.specs.Int.{w32, to_le_bytes}
 use Rattle.wire.specs.Words.{little, bytes_of, bytes_at, word}
+use Rattle.wire.specs.Memory.{splice}
 use Rattle.wire.proofs.Words.{little-bytes_of}
 use Rattle.image.specs.Image.{word_bytes}
 
@@ -32,6 +33,13 @@ pub flattened : (ws : List ℕ) → flat_map (λ bytes. bytes) (map (to_le_bytes
 unfolding word_bytes
 flattened [] = refl
 flattened (w ∷ ws) = rw (flattened ws) (ap (λ (l : List ℕ). l ++ word_bytes ws) (le_bytes w))
+
+-- ---- words written one behind the other
+
+module _ (out : List ℕ) (at : ℕ) (ws : List ℕ) (room : at + 4 * length ws ≤ length out) where
+  -- all words
+  pub words_all : (i : ℕ) (now : List ℕ) → length ws ≤ i → now ≡ splice out at (word_bytes (take i ws)) → now ≡ splice out at (word_bytes ws)
+  words_all i now h e = e ∙ ap (λ (l : List ℕ). splice out at (word_bytes l)) (take_all i ws h)
 
 -- ---- words read back
 

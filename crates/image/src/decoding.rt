@@ -38,7 +38,8 @@ fn runs_in(image: &[u8; BYTES]) -> [u32; RUNS]
     array::from_fn(|i| number_in(image, NUMBERS + i))
 }
 
-// The filter by whether it is running and its bits. A NaN's bits are no filter's.
+// The filter by whether it is running and its bits. A NaN's bits are no filter's. A flag with a value beside it, since an image holds
+// both, and each byte of both counts.
 #[tactic(auto, using(crate::proofs::FilterBits::value_is_nan), unfolding(crate::specs::Image::filter_in))]
 fn filter_in(running: bool, bits: u32) -> Filter
     ensures { result ≡ filter_in running bits }
@@ -51,6 +52,7 @@ fn filter_in(running: bool, bits: u32) -> Filter
     }
 }
 
+// The standing warning's message by whether there is one and its record: a flag with a value beside it for the same reason.
 #[tactic(auto, using(crate::proofs::StandingIn::notice_of_read), unfolding(crate::specs::Image::standing_in))]
 fn standing_in(sent: bool, bytes: &[u8]) -> Option<Message>
     ensures { result ≡ standing_in sent bytes.now }

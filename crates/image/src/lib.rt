@@ -15,7 +15,8 @@ use wire::Refusal;
 const LAYOUT: u8 = 1;
 
 // Yes or no, by their places: whether the filter is running, ignition, five marks of each cycle, whether a warning stands; and two
-// zeros, so that every number stands at a place that four divides, where the compiler compares it whole.
+// zeros, so that every number stands at a place that four divides, where the compiler compares it whole. The places here and below are
+// numbers and no enum: they are places of bytes, which the header fixes.
 const RUNNING: usize = 0;
 
 const IGNITION: usize = 1;

@@ -38,7 +38,8 @@ pub fn read(bytes: &[u8]) -> Result<Message, Refusal>
     }
 }
 
-// The fields of a record, whatever their values. Bytes beyond the end count as 0.
+// The fields of a record, whatever their values. Bytes beyond the end count as 0. A function and no From of 32 bytes: it takes bytes of
+// any length, and what is public may not take fewer.
 pub fn fields(bytes: &[u8]) -> Message
     ensures { result ≡ message_of bytes.now }
 {

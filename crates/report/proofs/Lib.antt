@@ -1,4 +1,5 @@
 pub mod Decimal
 pub mod LineLengths
 pub mod LineWritten
+pub mod Placed
 pub mod ExamplesHold

@@ -39,7 +39,8 @@ pub fn closing_line(ticks: u32, messages: u32, out: &mut [u8]) -> Result<usize, 
     write_line(line.as_str(), out)
 }
 
-// Writes the line of a refusal to the start of `out` and answers its length.
+// Writes the line of a refusal to the start of `out` and answers its length. The refusal is a number and no `Refusal`: a public function
+// that takes every byte may not take fewer.
 pub fn refusal_line(number: u8, out: &mut [u8]) -> Result<usize, Refusal>
     ensures { (answered result ≡ line_write (refusal_line number) out.old) × (out.new ≡ line_memory (refusal_line number) out.old) }
 {

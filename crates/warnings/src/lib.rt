@@ -83,13 +83,14 @@ const ROWS: [Row; WARNINGS as usize] = [
     },
 ];
 
-// The table's row of a warning; zeros for a number that is no warning.
+// The table's row of a warning; zeros for a number that is no warning. No Option: the record may hold any byte there, and each caller is
+// exact for all of them.
 pub fn row_of(warning: u8) -> Row
     ensures { result ≡ row_of warning }
 {
     match warning {
         1..=WARNINGS => {
-            let i = (warning - 1) as usize;
+            let i = usize::from(warning - 1);
             ROWS[i]
         }
         _ => Row {
@@ -120,6 +121,7 @@ pub fn validity_of(warning: u8, ignition: bool) -> u16
     }
 }
 
+// The road type of a road. No Option: 255 is the record's own byte for no road type.
 #[tactic(auto, unfolding(crate::specs::Warnings::road_type_of))]
 pub fn road_type_of(road: u8) -> u8
     ensures { result ≡ road_type_of road }

@@ -1,6 +1,6 @@
 -- A loop that changes an array place by place: those before place i are the new ones, the others are as they were.
 -- Assumes nothing.
-use mathlib.Core.Path.{◌≡◌, sym, ap, ◌∙◌}
+use mathlib.Core.Path.{◌≡◌, refl, sym, ap, ◌∙◌}
 use mathlib.Core.List.{List}
 use Prim.Native.Nat.{ℕ, suc, ◌+◌, ◌≤◌, ◌<◌}
 use native.Mathlib.Numerals.{add-one}
@@ -12,6 +12,9 @@ pub record Changing (new old now : List ℕ) (i : ℕ) : Type 0 where
   pub size : length now ≡ length old
   pub done : take i now ≡ take i new
   pub rest : drop i now ≡ drop i old
+
+pub change_starts : (new old : List ℕ) → Changing new old old 0
+change_starts new old = record { size = refl; done = refl; rest = refl }
 
 module _ {new old now : List ℕ} {i : ℕ} (h : Changing new old now i) where
   -- what stands at place i is not changed yet

@@ -166,7 +166,7 @@ fn byte(bytes: &[u8], at: usize, k: usize) -> u8
     }
 }
 
-// Memory that holds zeros.
+// Memory that holds zeros. It stands beside `[0; N]` for the places whose proof is not to see all the zeros one by one.
 pub fn zeros<const N: usize>() -> [u8; N]
     ensures { result ≡ replicate N 0 }
 {

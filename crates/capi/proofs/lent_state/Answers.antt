@@ -1,16 +1,15 @@
-use borrow.Author.Tests.{eq-eqb, ne_eqb, lt-ltb, le-ltb}
-use Rattle.wire.specs.Outcome.{first_fault, outcome, answered}
-use Rattle.image.specs.Image.{image_read}
+use Rattle.std.proofs.Common.{sym, ap, ◌∙◌}
+use Rattle.wire.specs.Outcome.{outcome, refused}
+use Rattle.wire.proofs.FirstFault.{numbered, outcome_refused, answered_passed}
+use Rattle.calls.proofs.CallFaults.{lengths_refused, lengths_passed}
+use Rattle.image.specs.Image.{image_read, state_in}
 use Rattle.capi.proofs.lent_state.Goals as goal
 
-pub returns-then-bytes-size : goal.returns-then-bytes-size
-unfolding first_fault outcome answered
-returns-then-bytes-size c = simp (ne_eqb _ _ c.if-bytes-size.true)
-
-pub returns-then-room-needed : goal.returns-then-room-needed
-unfolding first_fault outcome answered
-returns-then-room-needed c = simp (eq-eqb _ _ c.if-bytes-size.false, lt-ltb _ _ c.if-room-needed.true)
+pub returns-in_err-check_lengths : goal.returns-in_err-check_lengths
+returns-in_err-check_lengths c =
+    let e = lengths_refused _ _ _ _ _ c.in_err-check_lengths.field-0.0 c.in_err-check_lengths.ensures in
+    answered_passed _ _ c.from_residual.ensures.1 ∙ sym (outcome_refused _ _ (λ z. numbered _ (e ∙ z)) ∙ ap refused (sym e))
 
 pub returns : goal.returns
-unfolding first_fault image_read
-returns c = simp (eq-eqb _ _ c.if-bytes-size.false, le-ltb _ _ c.if-room-needed.false) c.load.ensures.found
+unfolding image_read
+returns c = c.load.ensures.found ∙ ap (λ n. outcome n (state_in c.args.memory.now)) (lengths_passed _ _ _ _ _ c.in_ok-check_lengths.ensures)

@@ -1,4 +1,4 @@
-use mathlib.Core.Path.{refl, sym, ◌∙◌}
+use mathlib.Core.Path.{ap, sym, ◌∙◌}
 use Rattle.filter.specs.Filter.{blend}
 use Rattle.filter.proofs.FloatBits.{rests}
 use Rattle.filter.proofs.blended.Goals as goal
@@ -8,4 +8,4 @@ returns-then-bits_of-eq-REST c = rests _ _ c.well_formed.0.1 c.if-reading-eq0.tr
 
 pub returns : goal.returns
 unfolding blend
-returns c = refl
+returns c = ap (blend c.args.f) c.from-x.ensures

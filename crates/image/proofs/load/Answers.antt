@@ -24,5 +24,5 @@ returns-then-is_saved c =
 
 pub returns-else-is_saved : goal.returns-else-is_saved
 returns-else-is_saved c =
-    let whole : IsWholeChunk c.args.image.now c.in_ok-image.image.now image_size = rw c.in_ok-image.ensures.ok_part at c.as_array.ensures.cases in
-    refused_other _ _ whole _ c.state_in-state.ensures _ c.is_saved.ensures c.if-is_saved.false
+    let exact : IsWholeChunk c.args.image.now c.in_ok-image.image.now image_size = rw c.in_ok-image.ensures.ok_part at c.as_array.ensures.cases in
+    refused_other _ _ exact _ c.state_in-state.ensures _ c.is_saved.ensures c.if-is_saved.false

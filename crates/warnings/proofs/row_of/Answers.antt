@@ -4,7 +4,7 @@ use Rattle.warnings.proofs.row_of.Goals as goal
 
 pub returns-in-1-to-3 : goal.returns-in-1-to-3
 unfolding rows
-returns-in-1-to-3 c = row_of_warning c.args.warning (omega arith) (omega arith)
+returns-in-1-to-3 c = rw c.from-i.ensures (row_of_warning c.args.warning (omega arith) (omega arith))
 
 pub returns-in_default : goal.returns-in_default
 returns-in_default c = no_row_lem c.args.warning (λ e. omega arith)

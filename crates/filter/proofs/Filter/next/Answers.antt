@@ -12,7 +12,7 @@ returns-then-reading-eq-NO_READING c = moved _ _ _ (owned_f32 _ _ c.well_formed.
 pub returns-in-Empty : goal.returns-in-Empty
 unfolding with_reading
 returns-in-Empty c = moved _ _ _ (owned_f32 _ _ c.well_formed.0)
-    (simp c.in-Empty.is (sym (next_reading Empty _ c.if-reading-eq-NO_READING.false)))
+    (simp (c.in-Empty.is, c.from.ensures) (sym (next_reading Empty _ c.if-reading-eq-NO_READING.false)))
 
 pub returns-in-Running : goal.returns-in-Running
 unfolding with_reading
