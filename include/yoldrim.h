@@ -7,7 +7,17 @@
  * "What is turned down". A refused call leaves all lent memory as it was. An accepted one writes the start of `out` and leaves the
  * rest as lent.
  *
- * Formats (samples, blocks, messages: little-endian) are those of document 01.
+ * Formats (samples, blocks, messages: little-endian) are those of document 01, with what change request CR 1 adds: happening bit 4 of a
+ * sample says that a risk mitigation function is active, refusal 5 covers bits 5 to 7, and warning 4 is that for an unresponsive driver,
+ * with cause 99, sub cause 8, quality 1 and validity 2.
+ *
+ * Warning 4 has News and Updates alone, an Update after every 5 ticks, and no Cancel: it ends without a message once the bit clears or
+ * the vehicle is still, or by a New of warning 3. A caller that shows what stands looks after each call at bytes 13 and 17 of the engine
+ * (below), whether a warning stands and which; or it sees, 5 ticks after the last New or Update of warning 4, that no message has come.
+ * At receivers it ends with its validity. The New that comes next has the next event number, with no Cancel before it.
+ *
+ * What a sender needs by the warning and no message holds: relevance distance code 4 for each; traffic class 1, but 0 for warning 4;
+ * linked cause 93 with sub cause 3 for warning 4, and none for the others.
  */
 #ifndef YOLDRIM_H
 #define YOLDRIM_H

@@ -115,7 +115,7 @@ impl<'a> Comparison<'a> {
         if wanted < 0 && self.unit.image() != image {
             self.differ("the engine's bytes changed at a refusal", &outcome);
         }
-        self.tally.answered(call, answer);
+        self.tally.answered(call, input, answer);
         self.tally_ticks(tick, given);
         answer
     }

@@ -1,6 +1,7 @@
 //! Days of driving made from a seed: drives, stands, towing, lost readings,
-//! switches, gear moves, doors and crashes. A day is an endless source of
-//! samples; whoever uses it takes as many as wanted.
+//! switches, gear moves, doors, crashes and an active risk mitigation function.
+//! A day is an endless source of samples; whoever uses it takes as many as
+//! wanted.
 
 use crate::random::Random;
 use crate::reference::{gear, happening, switch, Sample, FARTHEST, NO_READING, UNKNOWN_HEADING};
@@ -42,6 +43,8 @@ pub struct Style {
     changed: u64,
     /// A piece of the day has happenings.
     crash: u64,
+    /// The risk mitigation function becomes active in a piece of the day.
+    mitigation: u64,
     /// A stand is without hazard lights.
     unlit: u64,
     /// Whether drives last as long as in traffic.
@@ -49,17 +52,31 @@ pub struct Style {
 }
 
 /// Everything happens, and soon after one another.
-pub const TRAINING: Style =
-    Style { long_stand: 400, busy: 6, changed: 4, crash: 4, unlit: 6, traffic: false };
+pub const TRAINING: Style = Style {
+    long_stand: 400,
+    busy: 6,
+    changed: 4,
+    crash: 4,
+    mitigation: 4,
+    unlit: 6,
+    traffic: false,
+};
 /// Few switches move, so that countdowns run to their end.
 pub const QUIET: Style =
-    Style { long_stand: 400, busy: 40, changed: 16, crash: 12, unlit: 5, traffic: false };
+    Style { busy: 40, changed: 16, crash: 12, mitigation: 8, unlit: 5, ..TRAINING };
 /// Stands past 15 minutes.
 pub const LONG_STANDS: Style =
-    Style { long_stand: 6, busy: 16, changed: 12, crash: 3, unlit: 3, traffic: false };
+    Style { long_stand: 6, busy: 16, changed: 12, crash: 3, mitigation: 8, unlit: 3, ..TRAINING };
 /// A day as the recorder sees it: mostly driving, now and then a stop.
-pub const TRAFFIC: Style =
-    Style { long_stand: 60, busy: 60, changed: 12, crash: 40, unlit: 2, traffic: true };
+pub const TRAFFIC: Style = Style {
+    long_stand: 60,
+    busy: 60,
+    changed: 12,
+    crash: 40,
+    mitigation: 40,
+    unlit: 2,
+    traffic: true,
+};
 
 #[derive(Clone, Copy, PartialEq)]
 enum Motion {
@@ -82,8 +99,15 @@ pub struct Day {
     left: i64,
     /// For each switch, and at last the lever: ticks to its next move.
     moves: [Option<i64>; 9],
-    /// Happenings to come: ticks from now, and which.
-    planned: Vec<(i64, u8)>,
+    planned: Vec<Planned>,
+}
+
+/// Happenings to come, or that are there: from which to which tick, counted
+/// from now, and which.
+struct Planned {
+    first: i64,
+    last: i64,
+    what: u8,
 }
 
 impl Day {
@@ -154,6 +178,9 @@ impl Day {
         };
         if self.random.one_in(self.style.crash) {
             self.plan_happenings();
+        }
+        if self.random.one_in(self.style.mitigation) {
+            self.plan_mitigation();
         }
         if self.random.one_in(12) {
             self.jump();
@@ -284,12 +311,34 @@ impl Day {
     /// warning 3 forgets or is cancelled.
     fn plan_happenings(&mut self) {
         let at = self.random.between(0, self.left);
-        let first = self.happening();
-        self.planned.push((at, first));
+        self.plan_happening(at);
         if self.random.one_in(2) {
             let gap = self.random.pick(&[1, 50, 149, 150, 151, 152, 300, 600]);
-            let second = self.happening();
-            self.planned.push((at + gap, second));
+            self.plan_happening(at + gap);
+        }
+    }
+
+    fn plan_happening(&mut self, at: i64) {
+        let what = self.happening();
+        self.planned.push(Planned { first: at, last: at, what });
+    }
+
+    /// The risk mitigation function is active from now or later in this piece
+    /// of the day on, once or again and again with short breaks. Now and then a
+    /// happening comes when it ends, or a tick before or after.
+    fn plan_mitigation(&mut self) {
+        let flickering = self.random.one_in(4);
+        let times = if flickering { self.random.between(2, 20) } else { 1 };
+        let mut first = self.random.pick(&[0, self.left / 2, self.left - 1]);
+        for _ in 0..times {
+            let length = if flickering { self.random.between(1, 12) } else { self.span() };
+            let last = first + length - 1;
+            self.planned.push(Planned { first, last, what: happening::MITIGATION });
+            first = last + 1 + self.random.between(1, 3);
+            if self.random.one_in(4) {
+                let after = self.random.between(0, 2);
+                self.plan_happening(last + after);
+            }
         }
     }
 
@@ -303,13 +352,14 @@ impl Day {
 
     fn happenings_now(&mut self) -> u8 {
         let mut now = 0;
-        for (left, what) in &mut self.planned {
-            if *left == 0 {
-                now |= *what;
+        for planned in &mut self.planned {
+            if planned.first <= 0 {
+                now |= planned.what;
             }
-            *left -= 1;
+            planned.first -= 1;
+            planned.last -= 1;
         }
-        self.planned.retain(|(left, _)| *left >= 0);
+        self.planned.retain(|planned| planned.last >= 0);
         now
     }
 }

@@ -14,10 +14,12 @@ const HEADER: &str = concat!(env!("CARGO_MANIFEST_DIR"), "/../include/yoldrim.h"
 const SIZE_NAME: &str = "YOLDRIM_ENGINE_BYTES";
 const LAYOUT_NAME: &str = "YOLDRIM_ENGINE_LAYOUT";
 const AS_THE_TABLE: &str = "image with each number where the header's table says";
+const UNRESPONSIVE: &str = "image with warning 4 standing, as the header's table says";
 const OTHER_LAYOUT: &str = "image of another layout refused 21";
 
 pub fn declare(tally: &mut Tally) {
     tally.declare(AS_THE_TABLE);
+    tally.declare(UNRESPONSIVE);
     tally.declare(OTHER_LAYOUT);
 }
 
@@ -115,7 +117,7 @@ fn defined(header: &str, name: &str) -> Result<usize, String> {
 fn kept(history: &History, layout: u8) -> Vec<(&'static str, Vec<u8>)> {
     let i = history.samples().len() - 1;
     let now = &history.samples()[i];
-    let cycles = [history.cycle(1, i), history.cycle(2, i)];
+    let cycles = [history.cycle(STOPPED, i), history.cycle(BROKEN_DOWN, i)];
     let last = |kind, warning: Option<u8>| {
         let meant = |m: &&Message| m.kind == kind && warning.is_none_or(|w| m.warning == w);
         history.messages().iter().rev().find(meant).map_or(0, |m| m.reference)
@@ -141,7 +143,7 @@ fn kept(history: &History, layout: u8) -> Vec<(&'static str, Vec<u8>)> {
         ("ticks of the detection cycle of warning 2", ticks(cycles[1], i)),
         ("tick of the last New", new),
         ("first tick that the last New counted", counted),
-        ("tick of the last Cancel of warning 3", last(kind::CANCEL, Some(3))),
+        ("tick of the last Cancel of warning 3", last(kind::CANCEL, Some(POST_CRASH))),
         ("number of News", news),
     ];
     kept.extend(numbers.iter().chain(&runs(history)).map(|(words, n)| (*words, number(*n))));
@@ -214,6 +216,9 @@ fn as_the_table(comparison: &mut Comparison, table: &Table, seen: &mut Seen) {
     }
     seen.push(image);
     comparison.tally.count(AS_THE_TABLE);
+    if standing(&comparison.reference.history).is_some_and(|m| m.warning == UNRESPONSIVE_DRIVER) {
+        comparison.tally.count(UNRESPONSIVE);
+    }
 }
 
 /// "A fresh image has 0 in every byte but the first."

@@ -1,6 +1,6 @@
 //! Outside evidence for Yoldrim, the decision routine of a vehicle's warning
-//! unit: a second implementation of document 01 in Rust, a comparison of it
-//! with the proved static library, and a benchmark.
+//! unit: a second implementation of documents 01 and 02 in Rust, a comparison
+//! of it with the proved static library, and a benchmark.
 
 pub mod comparison;
 pub mod days;

@@ -1,5 +1,6 @@
-//! The bench stops of document 01 and its other examples and warnings, each as
-//! samples from tick 0 and the lines the printing program gives for them.
+//! The bench stops of document 01, its other examples and warnings and those of
+//! document 02, each as samples from tick 0 and the lines the printing program
+//! gives for them.
 
 use crate::reference::{gear, happening, switch, Sample, NO_READING};
 
@@ -56,6 +57,9 @@ pub fn all() -> Vec<Scene> {
     scenes.extend(crashes());
     scenes.extend(turns());
     scenes.extend(long_stands());
+    scenes.extend(unresponsive_driver());
+    scenes.extend(overruled_by_unresponsive_driver());
+    scenes.extend(unresponsive_driver_and_crashes());
     scenes
 }
 
@@ -535,4 +539,306 @@ fn ecall_after(ticks: u32, lines: &'static [&'static str]) -> Scene {
         s.happenings = if s.tick == ticks { happening::ECALL } else { 0 };
     };
     scene("eCall where stationarySince turns", ticks, change, lines)
+}
+
+/// The risk mitigation function is active and no reading comes, so the vehicle
+/// is not still.
+fn active_without_reading(sample: &mut Sample) {
+    sample.speed = NO_READING;
+    sample.happenings = happening::MITIGATION;
+}
+
+/// The risk mitigation function is active while the vehicle comes to a stop:
+/// "speeds 100, then 0: still first at tick 9".
+fn active_and_stopping(sample: &mut Sample) {
+    sample.speed = if sample.tick == 0 { 100 } else { 0 };
+    sample.happenings = happening::MITIGATION;
+}
+
+/// Warning 4 (CR 1) alone, and what comes after it.
+fn unresponsive_driver() -> Vec<Scene> {
+    use switch::*;
+    const STANDS_ON: &[&str] = &["0 N 4 1 1", "5 U 4 1 1", "10 U 4 1 1"];
+    vec![
+        scene("4 without a reading yet", 14, active_without_reading, STANDS_ON),
+        scene(
+            "4 with ignition off at 7: no Update from it",
+            14,
+            |s| {
+                active_without_reading(s);
+                set(s, IGNITION, s.tick < 7);
+            },
+            STANDS_ON,
+        ),
+        scene(
+            "4 with hazard lights off from 3",
+            14,
+            |s| {
+                active_without_reading(s);
+                set(s, HAZARD, s.tick < 3);
+            },
+            STANDS_ON,
+        ),
+        scene(
+            "4 towed 6,000 dm at 3",
+            14,
+            |s| {
+                active_without_reading(s);
+                s.east = if s.tick >= 3 { 6_000 } else { 0 };
+            },
+            STANDS_ON,
+        ),
+        scene(
+            "4 stays while the vehicle is not still for 51 ticks",
+            54,
+            active_without_reading,
+            &[
+                "0 N 4 1 1",
+                "5 U 4 1 1",
+                "10 U 4 1 1",
+                "15 U 4 1 1",
+                "20 U 4 1 1",
+                "25 U 4 1 1",
+                "30 U 4 1 1",
+                "35 U 4 1 1",
+                "40 U 4 1 1",
+                "45 U 4 1 1",
+                "50 U 4 1 1",
+            ],
+        ),
+        scene(
+            "4 has quality 1 with a door open for 31 samples",
+            40,
+            |s| {
+                s.speed = 1_000;
+                set(s, DOOR, true);
+                s.happenings = if s.tick >= 35 { happening::MITIGATION } else { 0 };
+            },
+            &["35 N 4 1 1", "40 U 4 1 1"],
+        ),
+        scene(
+            "4 ends at 9 as the vehicle is still, 1 begins its countdown at 10",
+            459,
+            active_and_stopping,
+            &["0 N 4 1 1", "5 U 4 1 1", "310 N 1 1 2"],
+        ),
+        scene(
+            "the same of warning 2",
+            459,
+            |s| {
+                active_and_stopping(s);
+                set(s, MESSAGE, true);
+            },
+            &["0 N 4 1 1", "5 U 4 1 1", "310 N 2 1 2"],
+        ),
+        scene(
+            "the bit clears at 9 too: the same",
+            459,
+            |s| {
+                active_and_stopping(s);
+                s.happenings = if s.tick < 9 { happening::MITIGATION } else { 0 };
+            },
+            &["0 N 4 1 1", "5 U 4 1 1", "310 N 1 1 2"],
+        ),
+        scene(
+            "the bit clears at 8: 1 begins its countdown at 9",
+            458,
+            |s| {
+                active_and_stopping(s);
+                s.happenings = if s.tick < 8 { happening::MITIGATION } else { 0 };
+            },
+            &["0 N 4 1 1", "5 U 4 1 1", "309 N 1 1 2"],
+        ),
+        scene(
+            "4 ends when its Update is due: no Update",
+            460,
+            |s| {
+                active_and_stopping(s);
+                s.speed = if s.tick <= 1 { 100 } else { 0 };
+            },
+            &["0 N 4 1 1", "5 U 4 1 1", "311 N 1 1 2"],
+        ),
+        scene(
+            "the bit off for one tick: two events and no Cancel",
+            17,
+            |s| {
+                active_without_reading(s);
+                s.happenings = if s.tick != 7 { happening::MITIGATION } else { 0 };
+            },
+            &["0 N 4 1 1", "5 U 4 1 1", "8 N 4 1 2", "13 U 4 1 2"],
+        ),
+        scene(
+            "a reading lost at 100 alone: 4, then a countdown from 102",
+            402,
+            |s| {
+                s.happenings = happening::MITIGATION;
+                s.speed = if s.tick == 100 { NO_READING } else { 0 };
+            },
+            &["100 N 4 1 1", "402 N 1 1 2"],
+        ),
+        scene(
+            "the function is active in a stop: stop (i)",
+            600,
+            |s| s.happenings = happening::MITIGATION,
+            &["300 N 1 1 1", "450 U 1 1 1", "600 U 1 1 1"],
+        ),
+    ]
+}
+
+/// Warning 4 over 1 and 2, which have their Cancel, also where that or an
+/// Update is due.
+fn overruled_by_unresponsive_driver() -> Vec<Scene> {
+    use switch::*;
+    /// Active from this tick on, and no reading.
+    fn active_from(sample: &mut Sample, tick: u32) {
+        if sample.tick >= tick {
+            active_without_reading(sample);
+        }
+    }
+    vec![
+        scene(
+            "1 overruled by 4 when its reading is lost",
+            322,
+            |s| {
+                s.happenings = happening::MITIGATION;
+                s.speed = if s.tick >= 310 { NO_READING } else { 0 };
+            },
+            &["300 N 1 1 1", "310 C 1 1 1", "310 N 4 1 2", "315 U 4 1 2", "320 U 4 1 2"],
+        ),
+        scene(
+            "2 overruled by 4 ten ticks after it drives off",
+            329,
+            |s| {
+                set(s, MESSAGE, true);
+                s.speed = if s.tick >= 310 { 100 } else { 0 };
+                s.happenings = if s.tick >= 320 { happening::MITIGATION } else { 0 };
+            },
+            &["300 N 2 1 1", "320 C 2 1 1", "320 N 4 1 2", "325 U 4 1 2"],
+        ),
+        scene(
+            "1 overruled by 4 when its Update is due",
+            454,
+            |s| active_from(s, 450),
+            &["300 N 1 1 1", "450 C 1 1 1", "450 N 4 1 2"],
+        ),
+        scene(
+            "2 overruled by 4 when its Update is due",
+            454,
+            |s| {
+                set(s, MESSAGE, true);
+                active_from(s, 450);
+            },
+            &["300 N 2 1 1", "450 C 2 1 1", "450 N 4 1 2"],
+        ),
+        scene(
+            "1 overruled by 4 when its Cancel is due: not still for 51 ticks",
+            364,
+            |s| {
+                s.speed = if s.tick >= 310 { 100 } else { 0 };
+                s.happenings = if s.tick >= 360 { happening::MITIGATION } else { 0 };
+            },
+            &["300 N 1 1 1", "360 C 1 1 1", "360 N 4 1 2"],
+        ),
+        scene(
+            "2 overruled by 4 when its Cancel is due: hazard lights off",
+            404,
+            |s| {
+                set(s, MESSAGE, true);
+                set(s, HAZARD, s.tick < 400);
+                active_from(s, 400);
+            },
+            &["300 N 2 1 1", "400 C 2 1 1", "400 N 4 1 2"],
+        ),
+    ]
+}
+
+/// Warnings 3 and 4, and bit 4 beside the happenings that 3 counts.
+fn unresponsive_driver_and_crashes() -> Vec<Scene> {
+    use happening::*;
+    /// The function is active in a moving vehicle but at the tick `off`; a crash
+    /// at 7.
+    fn crash_at_7(sample: &mut Sample, off: u32) {
+        sample.speed = 1_000;
+        sample.happenings = if sample.tick == 7 { HIGH_SEVERITY } else { 0 };
+        sample.happenings |= if sample.tick == off { 0 } else { MITIGATION };
+    }
+    /// The eCall button at 3 in a vehicle that is still first at 9.
+    fn ecall_at_3(sample: &mut Sample, cleared: u32) {
+        active_and_stopping(sample);
+        sample.happenings = if sample.tick < cleared { MITIGATION } else { 0 };
+        sample.happenings |= if sample.tick == 3 { ECALL } else { 0 };
+    }
+    const OVERRULED_AT_9: &[&str] = &["0 N 4 1 1", "5 U 4 1 1", "9 N 3 1 2"];
+    vec![
+        scene(
+            "4 overruled by 3 without a Cancel, and again a tick after that of 3",
+            167,
+            |s| crash_at_7(s, 9),
+            &["0 N 4 1 1", "5 U 4 1 1", "7 N 3 3 2", "157 C 3 3 2", "158 N 4 1 3", "163 U 4 1 3"],
+        ),
+        scene(
+            "4 overruled by 3 when the bit clears",
+            100,
+            |s| crash_at_7(s, 7),
+            &["0 N 4 1 1", "5 U 4 1 1", "7 N 3 3 2"],
+        ),
+        scene(
+            "4 overruled by 3 when its Update is due",
+            100,
+            |s| {
+                s.speed = 1_000;
+                s.happenings = if s.tick == 5 { HIGH_SEVERITY | MITIGATION } else { MITIGATION };
+            },
+            &["0 N 4 1 1", "5 N 3 3 2"],
+        ),
+        scene("4 overruled by 3 when still", 400, |s| ecall_at_3(s, 500), OVERRULED_AT_9),
+        scene(
+            "4 overruled by 3 when still and the bit clears",
+            400,
+            |s| ecall_at_3(s, 9),
+            OVERRULED_AT_9,
+        ),
+        scene(
+            "a crash and bit 4 at one tick: 3 alone",
+            100,
+            |s| {
+                s.speed = 1_000;
+                s.happenings = match s.tick {
+                    0..=3 => 0,
+                    4 => HIGH_SEVERITY | MITIGATION,
+                    _ => MITIGATION,
+                };
+            },
+            &["4 N 3 3 1"],
+        ),
+        scene(
+            "1 overruled by 3 while 4 triggers too",
+            320,
+            |s| {
+                if s.tick >= 310 {
+                    active_without_reading(s);
+                }
+                s.happenings |= if s.tick == 310 { HIGH_SEVERITY } else { 0 };
+            },
+            &["300 N 1 1 1", "310 C 1 1 1", "310 N 3 3 2"],
+        ),
+        scene(
+            "bit 4 alone is no crash",
+            700,
+            |s| {
+                set(s, switch::HAZARD, false);
+                s.happenings = MITIGATION;
+            },
+            &[],
+        ),
+        scene(
+            "the eCall button with bit 4 has quality 1",
+            700,
+            |s| {
+                set(s, switch::HAZARD, false);
+                s.happenings = if s.tick == 10 { ECALL | MITIGATION } else { MITIGATION };
+            },
+            &["10 N 3 1 1", "610 U 3 1 1"],
+        ),
+    ]
 }

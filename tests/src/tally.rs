@@ -54,6 +54,42 @@ const KINDS: [&str; 3] = ["New", "Update", "Cancel"];
 const CONDITIONS: [&str; 8] = ["a", "b", "c", "d", "e", "f", "g", "h"];
 const HAPPENINGS: [&str; 4] = ["eCall", "low severity", "pedestrian", "high severity"];
 
+/// The warnings that end with a Cancel.
+const WITH_CANCEL: [u8; 3] = [STOPPED, BROKEN_DOWN, POST_CRASH];
+
+/// Bytes of a record that 14 refuses as its warning has another value there:
+/// which, their place, the warning, the value, and one that the warning has.
+const MISFITS: [(&str, usize, u8, u8, u8); 18] = [
+    ("kind", 0, UNRESPONSIVE_DRIVER, kind::CANCEL, kind::NEW),
+    ("sub cause", 2, UNRESPONSIVE_DRIVER, 0, 8),
+    ("sub cause", 2, UNRESPONSIVE_DRIVER, 2, 8),
+    ("sub cause", 2, UNRESPONSIVE_DRIVER, 3, 8),
+    ("cause", 3, UNRESPONSIVE_DRIVER, 94, 99),
+    ("quality", 4, UNRESPONSIVE_DRIVER, 2, 1),
+    ("quality", 4, UNRESPONSIVE_DRIVER, 3, 1),
+    ("validity", 30, UNRESPONSIVE_DRIVER, 30, 2),
+    ("validity", 30, UNRESPONSIVE_DRIVER, 180, 2),
+    ("sub cause", 2, STOPPED, 8, 0),
+    ("sub cause", 2, BROKEN_DOWN, 8, 2),
+    ("sub cause", 2, POST_CRASH, 8, 3),
+    ("cause", 3, STOPPED, 99, 94),
+    ("cause", 3, BROKEN_DOWN, 99, 94),
+    ("cause", 3, POST_CRASH, 99, 94),
+    ("validity", 30, STOPPED, 2, 30),
+    ("validity", 30, BROKEN_DOWN, 2, 30),
+    ("validity", 30, POST_CRASH, 2, 180),
+];
+
+/// How warning 4 ends by these causes, which may be none where 3 overrules it.
+fn how_4_ends(causes: &EndCauses) -> &'static str {
+    match (causes.inactive, causes.still) {
+        (true, true) => "bit clear and still",
+        (true, false) => "bit clear",
+        (false, true) => "still",
+        (false, false) => "bit set and not still",
+    }
+}
+
 #[derive(Default)]
 pub struct Tally {
     rows: Vec<(String, u64)>,
@@ -65,6 +101,8 @@ impl Tally {
         let mut tally = Tally::default();
         tally.declare_triggers();
         tally.declare_rules();
+        tally.declare_unresponsive_driver();
+        tally.declare_order();
         tally.declare_fields();
         tally.declare_calls();
         tally
@@ -108,12 +146,15 @@ impl Tally {
             self.declare(format!("trigger of {warning}: at its cycle's first tick"));
             self.declare(format!("trigger of {warning}: a condition twice in one cycle"));
             self.declare(format!("trigger of {warning}: graded below what shortened it"));
+            self.declare(format!("trigger of {warning}: a tick later, as 4 stood before"));
         }
         for name in HAPPENINGS {
             self.declare(format!("trigger of 3: {name} alone, still"));
         }
         self.declare("trigger of 3: high severity, not still");
         self.declare("trigger of 3: happening waited for still");
+        self.declare("trigger of 3: bit 4 set too");
+        self.declare("trigger of 3: bit 4 set too, quality 1");
         self.declare("trigger of 3: window from tick 0");
         self.declare("trigger of 3: window from 150 back");
         self.declare("trigger of 3: window from its own Cancel");
@@ -137,20 +178,20 @@ impl Tally {
     }
 
     fn declare_rules(&mut self) {
-        for warning in 1..=3 {
+        for warning in BY_RANK {
             self.declare(format!("rule 1: New of {warning}, none standing"));
         }
-        for (standing, warning) in [(1, 2), (1, 3), (2, 3)] {
+        for (standing, warning) in [(1, 2), (1, 4), (1, 3), (2, 4), (2, 3)] {
             self.declare(format!("rule 1: {standing} overruled by {warning}"));
             self.declare(format!("rule 1: {standing} overruled by {warning}, Cancel due"));
             self.declare(format!("rule 1: {standing} overruled by {warning}, Update due"));
         }
-        for lower in 1..=2 {
+        for lower in [STOPPED, BROKEN_DOWN, UNRESPONSIVE_DRIVER] {
             self.declare(format!("rule 1: 3 taken while {lower} triggers too"));
         }
-        for warning in 1..=3 {
+        for warning in WITH_CANCEL {
             self.declare(format!("rule 2: Cancel of {warning}, not still"));
-            if warning != 3 {
+            if warning != POST_CRASH {
                 self.declare(format!("rule 2: Cancel of {warning}, hazard lights off"));
             }
             self.declare(format!("rule 2: Cancel of {warning}, moved"));
@@ -159,16 +200,66 @@ impl Tally {
         }
         self.declare("no Cancel of 3: not still for 151 ticks, some before its New");
         self.declare("no Cancel of 3: hazard lights off");
-        for warning in 1..=3 {
+        for warning in WITH_CANCEL {
             self.declare(format!("rule 3: Update of {warning}, period"));
             self.declare(format!("rule 3: Update of {warning}, ignition"));
             self.declare(format!("rule 3: Update of {warning}, period and ignition"));
         }
     }
 
+    fn declare_unresponsive_driver(&mut self) {
+        for what in [
+            "at tick 0",
+            "no reading yet",
+            "reading lost",
+            "F above 8",
+            "still at the tick before with the bit set",
+            "bit clear for one tick while not still",
+            "still for one tick with the bit set",
+            "a tick after the Cancel of 3",
+        ] {
+            self.declare(format!("trigger of 4: {what}"));
+        }
+        self.declare("no trigger of 4: 3 stands");
+        self.declare("no trigger of 4: at the tick of the Cancel of 3");
+        self.declare("no trigger of 3 or 4: bit 4 set, still");
+        self.declare("rule 1: 4 overruled by 3, bit set and not still");
+        self.declare("rule 1: 4 overruled by 3, Update due");
+        for rule in ["rule 1: 4 overruled by 3", "rule 2: end of 4"] {
+            for how in ["bit clear", "still", "bit clear and still"] {
+                self.declare(format!("{rule}, {how}"));
+            }
+        }
+        self.declare("rule 2: end of 4 while its Update is due");
+        for what in [
+            "not still for 51 ticks since its New",
+            "hazard lights off",
+            "ignition switched off",
+            "more than 5,000 dm from the last",
+        ] {
+            self.declare(format!("no effect on 4: {what}"));
+        }
+        self.declare("rule 3: Update of 4, period");
+    }
+
+    /// "One Cancel stands between neighbouring New messages where the earlier
+    /// isn't of 4, none where it is" (CR 1): no other number has a row.
+    fn declare_order(&mut self) {
+        for earlier in BY_RANK {
+            let cancels = usize::from(earlier != UNRESPONSIVE_DRIVER);
+            for later in BY_RANK {
+                self.declare(format!("New of {earlier}, {cancels} Cancel, New of {later}"));
+            }
+        }
+    }
+
     fn declare_fields(&mut self) {
+        for kind in ["New", "Update"] {
+            self.declare(format!("{kind} of 4, quality 1"));
+            self.declare(format!("{kind} of 4, stationarySince 0"));
+        }
         for kind in KINDS {
-            for warning in 1..=3 {
+            for warning in WITH_CANCEL {
                 for quality in 1..=3 {
                     self.declare(format!("{kind} of {warning}, quality {quality}"));
                 }
@@ -199,6 +290,12 @@ impl Tally {
                 self.declare(format!("{} refused {number}", call.name()));
             }
         }
+        for bit in 5..=7 {
+            self.declare(format!("sample refused 5 for bit {bit} alone"));
+        }
+        for (field, _, warning, value, _) in MISFITS {
+            self.declare(format!("message_check refused 14 for {field} {value} of {warning}"));
+        }
         for messages in 0..=2 {
             self.declare(format!("sample call gave {messages} messages"));
         }
@@ -207,15 +304,40 @@ impl Tally {
         }
     }
 
-    /// Counts an answer.
-    pub fn answered(&mut self, call: Call, answer: i32) {
+    /// Counts the answer to a call with this input.
+    pub fn answered(&mut self, call: Call, input: &[u8], answer: i32) {
         if answer < 0 {
             self.count(&format!("{} refused {}", call.name(), -answer));
+            match (call, -answer) {
+                (Call::Sample, 5) => self.refused_bits(input[8] & !happening::ALL),
+                (Call::MessageCheck, 14) => self.misfits_of(input),
+                _ => (),
+            }
             return;
         }
         self.count(&format!("{} accepted", call.name()));
         if matches!(call, Call::Sample | Call::Block) && answer <= 4 {
             self.count(&format!("{} call gave {answer} messages", call.name()));
+        }
+    }
+
+    fn refused_bits(&mut self, bits: u8) {
+        for bit in 5..=7 {
+            self.count_if(bits == 1 << bit, &format!("sample refused 5 for bit {bit} alone"));
+        }
+    }
+
+    /// Counts the value that alone got a record refused, if there is one.
+    fn misfits_of(&mut self, record: &[u8]) {
+        for (field, at, warning, value, right) in MISFITS {
+            if record[1] != warning || record[at] != value {
+                continue;
+            }
+            let mut mended = record.to_vec();
+            mended[at] = right;
+            let alone = Message::from_record(&mended).is_ok();
+            let row = format!("message_check refused 14 for {field} {value} of {warning}");
+            self.count_if(alone, &row);
         }
     }
 
@@ -271,19 +393,43 @@ impl Tally {
     }
 
     fn nothing_given(&mut self, history: &History, standing: u8, i: usize) {
-        if standing != NONE {
+        if standing == UNRESPONSIVE_DRIVER {
+            self.nothing_given_of_4(history, i);
+        } else if standing != NONE {
             let exactly = history.square_moved(i) == SQUARE_TOO_FAR;
             let row = format!("no Cancel of {standing}: exactly 5,000 dm from the last");
             self.count_if(exactly, &row);
         }
-        if standing == 3 {
-            let long = history.not_still_for(rules(3).cancel_delay, i);
+        if standing == POST_CRASH {
+            let long = rules(standing).cancel_delay.is_some_and(|d| history.not_still_for(d, i));
             self.count_if(long, "no Cancel of 3: not still for 151 ticks, some before its New");
             let lights_off = !history.samples()[i].on(switch::HAZARD);
             self.count_if(lights_off, "no Cancel of 3: hazard lights off");
+            self.count_if(history.triggers(UNRESPONSIVE_DRIVER, i), "no trigger of 4: 3 stands");
         }
         if standing == NONE && history.still(i) {
             self.forgotten_happenings(history, i);
+            let active = history.mitigation_active(i);
+            self.count_if(active, "no trigger of 3 or 4: bit 4 set, still");
+        }
+    }
+
+    /// Warning 4 ends, or stays whatever would end or update another.
+    fn nothing_given_of_4(&mut self, history: &History, i: usize) {
+        let causes = history.end_causes(i);
+        if causes.any() {
+            self.count(&format!("rule 2: end of 4, {}", how_4_ends(&causes)));
+            let due = history.update_causes(i).any();
+            self.count_if(due, "rule 2: end of 4 while its Update is due");
+            return;
+        }
+        for (occurred, what) in [
+            (history.not_still_since_new(50, i), "not still for 51 ticks since its New"),
+            (!history.samples()[i].on(switch::HAZARD), "hazard lights off"),
+            (history.ignition_switched_off(i), "ignition switched off"),
+            (history.square_moved(i) > SQUARE_TOO_FAR, "more than 5,000 dm from the last"),
+        ] {
+            self.count_if(occurred, &format!("no effect on 4: {what}"));
         }
     }
 
@@ -301,21 +447,66 @@ impl Tally {
         if standing == NONE {
             self.count(&format!("rule 1: New of {warning}, none standing"));
         } else {
-            let row = format!("rule 1: {standing} overruled by {warning}");
-            self.count(&row);
-            self.count_if(history.cancel_causes(i).any(), &format!("{row}, Cancel due"));
-            self.count_if(history.update_causes(i).any(), &format!("{row}, Update due"));
+            self.overruled(history, standing, warning, i);
         }
-        if warning == 3 {
-            self.crash_trigger(history, standing, i);
+        match warning {
+            POST_CRASH => self.crash_trigger(history, standing, i),
+            UNRESPONSIVE_DRIVER => self.mitigation_trigger(history, standing, i),
+            _ => self.cycle_trigger(history, new, i),
+        }
+        self.order_of(history, new);
+    }
+
+    fn overruled(&mut self, history: &History, standing: u8, warning: u8, i: usize) {
+        let row = format!("rule 1: {standing} overruled by {warning}");
+        let causes = history.end_causes(i);
+        if has_cancel(standing) {
+            self.count(&row);
+            self.count_if(causes.any(), &format!("{row}, Cancel due"));
         } else {
-            self.cycle_trigger(history, new, i);
+            self.count(&format!("{row}, {}", how_4_ends(&causes)));
+        }
+        self.count_if(history.update_causes(i).any(), &format!("{row}, Update due"));
+    }
+
+    /// Counts a New by the New before it and the Cancels between them.
+    fn order_of(&mut self, history: &History, new: &Message) {
+        let messages = history.messages();
+        let place = messages.iter().rposition(|m| m == new).expect("it was given");
+        let Some(before) = messages[..place].iter().rposition(|m| m.kind == kind::NEW) else {
+            return;
+        };
+        let between = &messages[before..place];
+        let cancels = between.iter().filter(|m| m.kind == kind::CANCEL).count();
+        let earlier = messages[before].warning;
+        self.count(&format!("New of {earlier}, {cancels} Cancel, New of {}", new.warning));
+    }
+
+    fn mitigation_trigger(&mut self, history: &History, standing: u8, i: usize) {
+        let row = |what: &str| format!("trigger of 4: {what}");
+        let reading = history.samples()[i].reading().is_some();
+        self.count_if(i == 0, &row("at tick 0"));
+        self.count_if(history.filter(i).is_none(), &row("no reading yet"));
+        self.count_if(history.filter(i).is_some() && !reading, &row("reading lost"));
+        self.count_if(reading, &row("F above 8"));
+        if i == 0 {
+            return;
+        }
+        let still = history.still(i - 1);
+        let active = history.mitigation_active(i - 1);
+        self.count_if(still && active, &row("still at the tick before with the bit set"));
+        if standing == NONE {
+            let stood = history.stood_before(i - 1);
+            let ended = stood == UNRESPONSIVE_DRIVER;
+            self.count_if(ended && !still, &row("bit clear for one tick while not still"));
+            self.count_if(ended && active, &row("still for one tick with the bit set"));
+            self.count_if(stood == POST_CRASH, &row("a tick after the Cancel of 3"));
         }
     }
 
     fn crash_trigger(&mut self, history: &History, standing: u8, i: usize) {
-        for lower in standing + 1..=2 {
-            let too = history.triggers(lower, i);
+        for lower in &BY_RANK[rank(standing)..rank(POST_CRASH) - 1] {
+            let too = history.triggers(*lower, i);
             self.count_if(too, &format!("rule 1: 3 taken while {lower} triggers too"));
         }
         let first = history.first_counted(i);
@@ -327,6 +518,10 @@ impl Tally {
         let waited = history.happenings(i, i) == 0;
         self.count_if(!history.still(i), "trigger of 3: high severity, not still");
         self.count_if(waited, "trigger of 3: happening waited for still");
+        let active = history.mitigation_active(i);
+        self.count_if(active, "trigger of 3: bit 4 set too");
+        let pressed = active && counted == happening::ECALL;
+        self.count_if(pressed, "trigger of 3: bit 4 set too, quality 1");
         self.crash_window(history, first, i);
     }
 
@@ -357,15 +552,21 @@ impl Tally {
         let twice = (0..8).any(|place| starts(history, place, cycle.first, i) > 1);
         self.count_if(twice, &row("a condition twice in one cycle"));
         self.count_if(k > 0 && new.quality == 1, &row("graded below what shortened it"));
+        let before = cycle.first.saturating_sub(1);
+        let delayed = history.stood_before(before) == UNRESPONSIVE_DRIVER;
+        let delayed = delayed && history.need(new.warning, before);
+        self.count_if(delayed, &row("a tick later, as 4 stood before"));
     }
 
     fn cancel_given(&mut self, history: &History, standing: u8, i: usize) {
-        let causes = history.cancel_causes(i);
+        let causes = history.end_causes(i);
         let row = |cause: &str| format!("rule 2: Cancel of {standing}{cause}");
         self.count_if(causes.not_still, &row(", not still"));
         self.count_if(causes.hazard_off, &row(", hazard lights off"));
         self.count_if(causes.moved, &row(", moved"));
         self.count_if(history.update_causes(i).any(), &row(" while its Update is due"));
+        let after_3 = standing == POST_CRASH && history.triggers(UNRESPONSIVE_DRIVER, i);
+        self.count_if(after_3, "no trigger of 4: at the tick of the Cancel of 3");
     }
 
     fn update_given(&mut self, history: &History, standing: u8, i: usize) {
@@ -391,7 +592,7 @@ impl Tally {
             self.count_if(turns, &format!("New or Update after {run} ticks of still"));
         }
         self.count_if(message.heading == UNKNOWN_HEADING, "heading unknown in a message");
-        if warning == 2 {
+        if warning == BROKEN_DOWN {
             self.count(&format!("validity {} of warning 2", message.validity));
         }
         if message.kind == kind::CANCEL {

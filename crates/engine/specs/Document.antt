@@ -1,4 +1,4 @@
--- What document 01 writes out, of the definitions that the promises cite: its tables, bounds and orders, its sentences in words, and its stops.
+-- What document 01 and the requests after it write out, of the definitions that the promises cite: its tables, bounds and orders, its sentences in words, and its stops.
 -- `Engine::fresh` ensures it, with demand 3, so that no part of it can go unseen. Assumes nothing.
 use Rattle.std.specs.Prelude.{◌≡◌}
 use Rattle.warnings.specs.Examples.{WarningExamples}
@@ -10,6 +10,7 @@ use Rattle.history.specs.State as State
 use Rattle.history.specs.InWords.{InWords}
 use Rattle.history.specs.BenchStops.{BenchStops}
 use Rattle.history.specs.FurtherStops.{FurtherStops}
+use Rattle.history.specs.DriverStops.{DriverStops}
 use Rattle.history.specs.RangeExamples.{RangeExamples}
 use Rattle.calls.specs.OrderOfChecks.{OrderOfChecks}
 use Rattle.calls.specs.Demand.{Demand}
@@ -35,9 +36,11 @@ pub record Document : Type 0 where
   pub bench_stops : BenchStops
   -- and stops for what these leave open
   pub further_stops : FurtherStops
+  -- and for warning 4, after CR 1
+  pub driver_stops : DriverStops
 
 -- the promise of `Engine::fresh`: the state that has taken no sample, demand 3 for every list of calls on it, and that the definitions
--- by which all this is said give what document 01 writes out
+-- by which all this is said give what the documents write out
 pub record FreshEngine (e : Engine) : Type 0 where
   pub state : e.state ≡ State.fresh
   pub demand : Demand e.state

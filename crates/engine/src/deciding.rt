@@ -1,15 +1,15 @@
 // What is given at a tick: the three rules, with the unit's settings.
-ghost use Rattle.std.specs.Prelude.{◌≡◌, ◌≤◌, ◌-◌, ◌^◌, pos, min};
+ghost use Rattle.std.specs.Prelude.{◌≡◌, ◌≤◌, ◌-◌, ◌^◌, ◌∷◌, false, pos, min, get_or};
 ghost use Rattle.std.specs.List.{find};
 ghost use Rattle.warnings.specs.Warnings.{by_rank};
-ghost use Rattle.history.specs.Rules.{unit_settings, fulfilled, cycle_triggers, crash_triggers, triggers, overrules, quality_of, stationary_since, report_of, cancel_of, squared, distance_exceeded, driven_off, hazard_off, cancel_due, update_due, raise, keep, decide};
+ghost use Rattle.history.specs.Rules.{unit_settings, fulfilled, cycle_triggers, crash_triggers, driver_triggers, triggering, overrules, quality_of, stationary_since, report_of, cancel_of, cancel_standing, squared, distance_exceeded, driven_off, hazard_off, cancel_due, end_due, update_due, raise, keep, decide};
 ghost use Rattle.engine.specs.Fits.{ViewFits};
 
-use crate::taking::{rank, standing_rank};
+use crate::taking::{ends_without_message, is_unresponsive, rank, standing_rank};
 use history::{Cycle, Decision, View};
 use message::Message;
 use sample::Position;
-use warnings::{BROKEN_DOWN, BY_RANK, CANCEL, NEW, POST_CRASH, STOPPED, UPDATE};
+use warnings::{BY_RANK, CANCEL, NEW, POST_CRASH, UNRESPONSIVE_DRIVER, UPDATE, WARNINGS};
 
 const SILENT: Decision = Decision {
     cancel: None,
@@ -57,6 +57,16 @@ fn cancel_of(tick: u32, m: Message) -> Message
     }
 }
 
+// The Cancel of the standing warning, if any and if it has one.
+#[tactic(auto, unfolding(history::specs::Rules::cancel_standing))]
+fn cancel_standing(tick: u32, standing: Option<Message>) -> Option<Message>
+    ensures { result ≡ cancel_standing tick standing }
+{
+    standing
+        .filter(|m| !ends_without_message(m.warning))
+        .map(|m| cancel_of(tick, m))
+}
+
 // The square of the difference of two coordinates, or the greatest number where the square is above it. The difference always fits.
 #[tactic(auto, unfolding(history::specs::Rules::squared))]
 fn squared(a: i32, b: i32) -> i64
@@ -74,6 +84,19 @@ fn distance_exceeded(p: Position, q: Position) -> bool
     25000000 < squared(p.east, q.east).saturating_add(squared(p.north, q.north))
 }
 
+// Whether a warning triggers, by the list of which do. No number but a warning triggers.
+fn is_triggered(triggering: [bool; WARNINGS as usize], warning: u8) -> bool
+    ensures { result ≡ get_or (false ∷ triggering) warning false }
+{
+    match warning {
+        1..=WARNINGS => {
+            let i = usize::from(warning - 1);
+            triggering[i]
+        }
+        _ => false,
+    }
+}
+
 // What is looked at, with room for what the rules add to its numbers.
 #[derive(Clone, Copy)]
 pub(crate) struct Seen {
@@ -89,46 +112,47 @@ impl Seen {
         (self.view.recent == 3) | ((0 < self.view.recent) & (0 < self.view.stationary))
     }
 
-    #[tactic(auto, unfolding(history::specs::Rules::triggers))]
-    fn triggers(self, warning: u8) -> bool
-        ensures { result ≡ triggers unit_settings self.view warning }
+    #[tactic(auto, unfolding(history::specs::Rules::driver_triggers))]
+    fn driver_triggers(self) -> bool
+        ensures { result ≡ driver_triggers self.view }
     {
-        match warning {
-            STOPPED => cycle_triggers(self.view.stoppedcycle),
-            BROKEN_DOWN => cycle_triggers(self.view.brokendowncycle),
-            POST_CRASH => self.crash_triggers(),
-            _ => false,
-        }
+        is_unresponsive(0 < self.view.stationary, self.view.sample)
     }
 
-    #[tactic(auto, unfolding(history::specs::Rules::overrules))]
-    fn overrules(self, warning: u8) -> bool
-        ensures { result ≡ overrules unit_settings self.view warning }
+    // Whether each warning triggers, from 1 on.
+    fn triggering(self) -> [bool; WARNINGS as usize]
+        ensures { result ≡ triggering unit_settings self.view }
     {
-        self.triggers(warning) & (standing_rank(self.view.standing) < rank(warning))
+        [
+            cycle_triggers(self.view.stoppedcycle),
+            cycle_triggers(self.view.brokendowncycle),
+            self.crash_triggers(),
+            self.driver_triggers(),
+        ]
     }
 
-    // The highest warning that overrules the standing one.
+    // The highest warning that overrules the standing one. What the search asks again and again is found once, before it.
+    #[tactic(auto, unfolding(history::specs::Rules::triggers, history::specs::Rules::overrules))]
     fn highest(self) -> Option<u8>
         ensures { result ≡ find (overrules unit_settings self.view) by_rank }
     {
-        BY_RANK
-            .iter()
-            .copied()
-            .find(|warning| self.overrules(*warning))
+        let triggering = self.triggering();
+        let standing = standing_rank(self.view.standing);
+        BY_RANK.iter().copied().find(|warning| is_triggered(triggering, *warning)
+            & (standing < rank(*warning)))
     }
 
     #[tactic(auto, unfolding(history::specs::Rules::quality_of))]
     fn quality_of(self, warning: u8, g: u8) -> u8
         ensures { result ≡ quality_of self.view warning g }
     {
-        if warning == POST_CRASH {
-            return g;
+        match warning {
+            POST_CRASH => g,
+            UNRESPONSIVE_DRIVER => 1,
+            _ if self.view.expiring => 3,
+            _ if self.view.shortening => 2,
+            _ => 1,
         }
-        if self.view.expiring {
-            return 3;
-        }
-        if self.view.shortening { 2 } else { 1 }
     }
 
     #[tactic(auto, unfolding(history::specs::Rules::report_of))]
@@ -175,27 +199,40 @@ impl Seen {
             | distance_exceeded(self.view.sample.position, m.position)
     }
 
+    // Whether rule 2 ends the standing warning.
+    #[tactic(auto, unfolding(history::specs::Rules::end_due))]
+    fn end_due(self, m: Message) -> bool
+        ensures { result ≡ end_due self.view m }
+    {
+        if ends_without_message(m.warning) {
+            !self.driver_triggers()
+        } else {
+            self.cancel_due(m)
+        }
+    }
+
     // A sum held at the greatest number is above every tick as well.
     #[tactic(auto, unfolding(history::specs::Rules::update_due))]
     fn update_due(self, m: Message) -> bool
         ensures { result ≡ update_due self.view m }
     {
         let period = warnings::row_of(m.warning).period;
-        (m.reference.saturating_add(period) <= self.view.tick) | self.view.switchedoff
+        (m.reference.saturating_add(period) <= self.view.tick)
+            | (self.view.switchedoff & (m.warning != UNRESPONSIVE_DRIVER))
     }
 
-    #[tactic(auto, unfolding(history::specs::Rules::raise, history::specs::Rules::cancel_standing))]
+    #[tactic(auto, unfolding(history::specs::Rules::raise))]
     fn raise(self, warning: u8) -> Decision
         ensures { result ≡ raise self.view warning }
     {
         let v = self.view;
         Decision {
-            cancel: v.standing.map(|m| cancel_of(v.tick, m)),
+            cancel: cancel_standing(v.tick, v.standing),
             report: Some(self.report_of(NEW, warning, v.events + 1, v.recent)),
         }
     }
 
-    #[tactic(auto, unfolding(history::specs::Rules::keep, history::specs::Rules::cancel_standing))]
+    #[tactic(auto, unfolding(history::specs::Rules::keep))]
     fn keep(self) -> Decision
         ensures { result ≡ keep self.view self.view.standing }
     {
@@ -203,9 +240,9 @@ impl Seen {
         let Some(m) = v.standing else {
             return SILENT;
         };
-        if self.cancel_due(m) {
+        if self.end_due(m) {
             return Decision {
-                cancel: Some(cancel_of(v.tick, m)),
+                cancel: cancel_standing(v.tick, v.standing),
                 ..SILENT
             };
         }

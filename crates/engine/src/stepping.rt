@@ -10,7 +10,7 @@ use crate::viewing::seen;
 use history::{State, Stepped};
 use sample::Sample;
 
-#[tactic(auto, using(crate::proofs::StepFits::log_kept, crate::proofs::StepFits::events_more), unfolding(history::specs::State::step, history::specs::State::with_log))]
+#[tactic(auto, using(crate::proofs::StepFits::events_kept, crate::proofs::StepFits::events_more), unfolding(history::specs::State::step, history::specs::State::with_log))]
 pub(crate) fn stepped(s: Bounded, x: Sample) -> Stepped
     ensures { result ≡ step unit_settings s.state x }
 {

@@ -1,6 +1,6 @@
 // The state with one more sample, before anything is given at its tick.
 ghost use Rattle.std.specs.Prelude.{◌≡◌, ◌≤◌};
-ghost use Rattle.history.specs.Rules.{rank, standing_rank};
+ghost use Rattle.history.specs.Rules.{rank, standing_rank, unresponsive, ends_without_message, lasting};
 ghost use Rattle.history.specs.History.{is_still, precondition};
 ghost use Rattle.history.specs.Runs.{facts_of, runs_after};
 ghost use Rattle.history.specs.State.{switched_off, conditions_at, cycle_after, goes_on, with_sample};
@@ -8,12 +8,12 @@ ghost use Rattle.history.specs.State.{switched_off, conditions_at, cycle_after, 
 use crate::bounded::Bounded;
 use filter::Filter;
 use history::{
-    BELT_OFF, BONNET, BOOT, BRAKE, Conditions, Cycle, DOOR, IDLE, IGNITION_OFF, NO_CYCLE, PARK,
-    RUNS, State,
+    BELT_OFF, BONNET, BOOT, BRAKE, Conditions, Cycle, DOOR, IDLE, IGNITION_OFF, Log, NO_CYCLE,
+    PARK, RUNS, State,
 };
 use message::Message;
 use sample::Sample;
-use warnings::{BROKEN_DOWN, STOPPED};
+use warnings::{BROKEN_DOWN, STOPPED, UNRESPONSIVE_DRIVER};
 
 // The gear codes of a sample that conditions a and b ask for.
 const GEAR_PARK: u8 = 1;
@@ -142,7 +142,30 @@ fn goes_on(warning: u8, still: bool, x: Sample, standing: u8) -> bool
     still & precondition(warning, x) & (standing < rank(warning))
 }
 
-#[tactic(auto, unfolding(history::specs::State::with_sample))]
+// Whether the driver is unresponsive: a risk mitigation function is active, and the vehicle is not still.
+#[tactic(auto, unfolding(history::specs::Rules::unresponsive))]
+pub(crate) fn is_unresponsive(still: bool, x: Sample) -> bool
+    ensures { result ≡ unresponsive still x }
+{
+    x.happenings_now().mitigation & !still
+}
+
+// Whether a warning ends without a Cancel.
+pub(crate) fn ends_without_message(warning: u8) -> bool
+    ensures { result ≡ ends_without_message warning }
+{
+    warning == UNRESPONSIVE_DRIVER
+}
+
+// What stood before a sample, but for a warning that ends without a message and does not trigger with it.
+#[tactic(auto, unfolding(history::specs::Rules::lasting))]
+fn lasting(triggered: bool, standing: Option<Message>) -> Option<Message>
+    ensures { result ≡ lasting triggered standing }
+{
+    standing.filter(|m| triggered | !ends_without_message(m.warning))
+}
+
+#[tactic(auto, unfolding(history::specs::State::with_sample, history::specs::State::log_lasting))]
 pub(crate) fn with_sample(s: Bounded, x: Sample) -> State
     ensures { result ≡ with_sample s.state x }
 {
@@ -152,6 +175,10 @@ pub(crate) fn with_sample(s: Bounded, x: Sample) -> State
     let runs = runs_after(facts_of(still, x), s);
     let now = conditions_at(before.taken, runs);
     let standing = standing_rank(before.log.standing);
+    let log = Log {
+        standing: lasting(is_unresponsive(still, x), before.log.standing),
+        ..before.log
+    };
     let stopped_on = goes_on(STOPPED, still, x, standing);
     let broken_down_on = goes_on(BROKEN_DOWN, still, x, standing);
     State {
@@ -161,6 +188,6 @@ pub(crate) fn with_sample(s: Bounded, x: Sample) -> State
         runs,
         stoppedcycle: cycle_after(stopped_on, now, before.stoppedcycle),
         brokendowncycle: cycle_after(broken_down_on, now, before.brokendowncycle),
-        ..before
+        log,
     }
 }

@@ -2,20 +2,20 @@
 -- Assumes nothing.
 use mathlib.Core.Path.{◌≡◌, refl, sym, ap, ◌∙◌}
 use mathlib.Core.Logic.{inl, inr}
-use mathlib.Core.Bool.{Bool, true, false, cond, false≢true}
+use mathlib.Core.Bool.{Bool, true, false, not, ◌||◌, cond, false≢true}
 use mathlib.Core.List.Memᴰ
 use mathlib.Core.List.{List, [], ◌∷◌, Memᴰ}
 use Prim.Native.Nat.{ℕ, zero, suc, ◌+◌, ◌≤◌, ◌<◌}
 use native.Mathlib.Omega.{arith}
-use borrow.Author.Tests.{ltb-true, eq-eqb}
-use lib.Dec.{T, ltb, eqb}
+use borrow.Author.Tests.{ltb-true, eq-eqb, lt-ltb}
+use lib.Dec.{T, ltb, eqb, eqb→eq}
 use lib.Ieee.Fits.{and_r}
 use lib.ListN.{length, get_or}
 use Rattle.wire.proofs.Tests.{both_true}
-use Rattle.warnings.specs.Warnings.{warning_count, by_rank, row_of}
-use Rattle.warnings.proofs.Table.{falling, falling_below, by_rank_falls, by_rank_has}
+use Rattle.warnings.specs.Warnings.{post_crash, unresponsive_driver, warning_count, by_rank, row_of}
+use Rattle.warnings.proofs.Table.{each_passes, falling, falling_below, by_rank_falls, by_rank_has}
 use Rattle.history.specs.declared.View.{View}
-use Rattle.history.specs.Rules.{Settings, rank, standing_rank, cycle_triggers, crash_triggers, triggers, overrules, highest_of, highest}
+use Rattle.history.specs.Rules.{Settings, rank, standing_rank, triggering, triggers, overrules, highest_of, highest}
 use Rattle.history.specs.TickWords.{TheHighest}
 
 -- what a table has is had by the numbers from 1 on alone, one for each entry
@@ -28,7 +28,7 @@ had_by (b ∷ column) (suc (suc w)) e = let r = had_by column (suc w) e in (omeg
 -- no number but a warning triggers
 triggers_warning : (S : Settings) (v : View) (warning : ℕ) → triggers S v warning ≡ true → (1 ≤ warning) × (warning ≤ warning_count)
 unfolding triggers
-triggers_warning S v warning e = had_by (cycle_triggers S v.stoppedcycle ∷ cycle_triggers S v.brokendowncycle ∷ crash_triggers v ∷ []) warning e
+triggers_warning S v warning e = had_by (triggering S v) warning e
 
 -- "A warning outranking the standing one triggers"
 pub record Overruling (S : Settings) (v : View) (warning : ℕ) : Type 0 where
@@ -43,6 +43,13 @@ overruling S v warning o =
     let b = both_true (triggers S v warning) (ltb (standing_rank v.standing) (rank warning)) o in
     let r = triggers_warning S v warning b.0 in
     record { triggered = b.0; outranks = ltb-true _ _ b.1; low = r.0; high = r.1 }
+
+-- "It ranks between 2 and 3." (CR 1): what overrules 4 is 3
+pub above_driver : (S : Settings) (v : View) (warning : ℕ) → Overruling S v warning → standing_rank v.standing ≡ rank unresponsive_driver → warning ≡ post_crash
+unfolding rank row_of
+above_driver S v warning o e =
+    let l : 3 < rank warning = omega (arith, e, o.outranks) in
+    eqb→eq warning post_crash (rw (lt-ltb 3 (rank warning) l) at (each_passes (λ w. not (ltb 3 (rank w)) || eqb w post_crash) tt warning o.low o.high))
 
 module _ (S : Settings) (v : View) where
   -- what is found of a list of warnings

@@ -1,5 +1,6 @@
 pub mod StepMatchesHistory
 pub mod GivenInOrder
+pub mod DriverInWords
 pub mod AtMostOneStands
 pub mod StandsByMessages
 pub mod OneCancelBetweenNews
@@ -13,6 +14,7 @@ pub mod MessagesAdmitted
 pub mod StatesInRange
 pub mod TickNumbers
 pub mod TicksOfRun
+pub mod StandsByTicks
 pub mod LookBacksInWords
 pub mod CyclesInWords
 pub mod HappeningsInWords
@@ -23,6 +25,7 @@ pub mod HighestInWords
 pub mod StopsComputed
 pub mod BenchStopsHold
 pub mod FurtherStopsHold
+pub mod DriverStopsHold
 pub mod MessagesInWords
 pub mod FactsInWords
 pub mod GivenInWords

@@ -1,7 +1,7 @@
 -- Every message that the history reading gives is one that refusal 14 admits: after any accepted samples, up to ten million.
 -- Assumes nothing.
 use mathlib.Core.Path.{◌≡◌, refl}
-use mathlib.Core.Bool.{Bool, true, false, cond}
+use mathlib.Core.Bool.{Bool, true, false, not, ◌&&◌, cond}
 use mathlib.Core.List.{List, [], ◌∷◌, ◌++◌}
 use Prim.Native.Nat.{ℕ, ◌+◌, ◌≤◌, ◌<◌}
 use native.Mathlib.Omega.{arith}
@@ -21,7 +21,7 @@ use Rattle.message.specs.Message.{admits}
 use Rattle.message.proofs.Admitted.{Admitted, admits_it}
 use Rattle.history.specs.declared.View.{View}
 use Rattle.history.specs.declared.Decision.{Decision}
-use Rattle.history.specs.Rules.{Settings, rank, standing_rank, triggers, highest, report_of, cancel_of, cancel_standing, cancel_due, update_due, silent, raise, keep, decide, noticed, given_by}
+use Rattle.history.specs.Rules.{Settings, rank, standing_rank, triggers, highest, report_of, cancel_of, ends_without_message, cancel_standing, end_due, update_due, silent, raise, keep, decide, lasting, noticed, given_by}
 use Rattle.history.specs.History.{Past, present, size, filter_after, messages, standing_after, standing, events, started, last_cancel, counted_from, counted, view_of, given_at, tick_of, after, given_during}
 use Rattle.history.proofs.GivenInOrder.{either}
 use Rattle.history.proofs.HighestInWords.{Overruling, highest_overrules}
@@ -56,16 +56,18 @@ module _ (x : Sample) (past : Past) (r : Reached past) (f : Fields x) (few : siz
   unfolding filter_after
   filter_next given = next_valid (filter_after past) x.speed f.speed r.filter_valid
 
-  last_report_stays : (n : Option Message) → IfSome n (LastReport past) → IfSome n (LastReport (present x ∷ past))
-  unfolding messages size
-  last_report_stays None s = tt
-  last_report_stays (Some m) s = record {
-    admitted = s.admitted;
-    no_cancel = s.no_cancel;
-    earlier = omega arith;
-    newest = s.newest;
-    happened = λ q. still_counted _ _ past (s.happened q);
-  }
+  -- one more tick, at which the standing warning may end without a message
+  last_report_lasts : (triggered : Bool) (n : Option Message) → IfSome n (LastReport past) → IfSome (lasting triggered n) (LastReport (present x ∷ past))
+  unfolding messages size lasting
+  last_report_lasts triggered None s = tt
+  last_report_lasts triggered (Some m) s =
+      either (λ l. IfSome l (LastReport (present x ∷ past))) (ends_without_message m.warning && not triggered) tt (record {
+        admitted = s.admitted;
+        no_cancel = s.no_cancel;
+        earlier = omega arith;
+        newest = s.newest;
+        happened = λ q. still_counted _ _ past (s.happened q);
+      })
 
   silent_fits : Fits silent
   unfolding given_by noticed messages size standing standing_after
@@ -77,32 +79,36 @@ module _ (x : Sample) (past : Past) (r : Reached past) (f : Fields x) (few : siz
       counted_by_now = omega arith;
       last_cancel_by_now = omega arith;
       events_by_now = omega arith;
-      last_report = last_report_stays (standing past) r.last_report;
+      last_report = last_report_lasts _ (standing past) r.last_report;
     },
   )
 
   module _ (m : Message) (s : LastReport past m) where
-    cancel_passes : T (admits (cancel_of (size past) m))
-    cancel_passes = admits_it _ (cancel_admitted (size past) m s.admitted (omega arith) (omega arith))
+    cancel_passes : ends_without_message m.warning ≡ false → T (admits (cancel_of (size past) m))
+    cancel_passes cancels = admits_it _ (cancel_admitted (size past) m cancels s.admitted (omega arith) (omega arith))
 
     cancel_by_now : last_cancel (cancel_of (size past) m ∷ ms) ≤ size past
     unfolding last_cancel cancel_of
     cancel_by_now = either (λ (k : ℕ). k ≤ size past) (eqb m.warning post_crash) (omega arith) r.last_cancel_by_now
 
-    -- "2. The standing one is cancelled"
-    cancel_fits : Fits (record { cancel = cancel_standing (size past) (Some m); report = None })
+    -- "2. The standing one is cancelled"; where it ends without a message, nothing is given
+    end_fits : Fits (record { cancel = cancel_standing (size past) (Some m); report = None })
     unfolding given_by noticed messages size cancel_standing cancel_of standing standing_after started counted last_cancel events
-    cancel_fits = (
-      (cancel_passes, tt),
-      record {
-        filter_valid = filter_next _;
-        started_by_now = omega arith;
-        counted_by_now = omega arith;
-        last_cancel_by_now = omega (arith, cancel_by_now);
-        events_by_now = omega arith;
-        last_report = tt;
-      },
-    )
+    end_fits = go (ends_without_message m.warning) refl
+      where
+        go : (b : Bool) → ends_without_message m.warning ≡ b → Fits (record { cancel = cond b None (Some (cancel_of (size past) m)); report = None })
+        go true e = silent_fits
+        go false e = (
+          (cancel_passes e, tt),
+          record {
+            filter_valid = filter_next _;
+            started_by_now = omega arith;
+            counted_by_now = omega arith;
+            last_cancel_by_now = omega (arith, cancel_by_now);
+            events_by_now = omega arith;
+            last_report = tt;
+          },
+        )
 
     abbrev an_update : Message
     an_update = report_of update m.warning (events ms) v.kept v
@@ -141,7 +147,7 @@ module _ (x : Sample) (past : Past) (r : Reached past) (f : Fields x) (few : siz
   keep_fits : (n : Option Message) → IfSome n (LastReport past) → Fits (keep v n)
   unfolding keep view_of
   keep_fits None s = silent_fits
-  keep_fits (Some m) s = either Fits (cancel_due v m) (cancel_fits m s) (either Fits (update_due v m) (update_fits m s) silent_fits)
+  keep_fits (Some m) s = either Fits (end_due v m) (end_fits m s) (either Fits (update_due v m) (update_fits m s) silent_fits)
 
   module _ (warning : ℕ) (low : 1 ≤ warning) (high : warning ≤ warning_count) (happened : warning ≡ 3 → 1 ≤ v.recent) where
     abbrev a_new : Message
@@ -176,14 +182,24 @@ module _ (x : Sample) (past : Past) (r : Reached past) (f : Fields x) (few : siz
       });
     }
 
+    alone_fits : Fits (record { cancel = None; report = Some a_new })
+    unfolding given_by noticed messages standing standing_after report_of
+    alone_fits = ((admits_it _ new_admitted, tt), new_reached _ ms refl refl refl r.last_cancel_by_now (λ q. refl))
+
     -- "1. .. Cancel of the standing one, if any, then New of the highest"; one that 3 outranks is not 3, so its Cancel leaves what 3 counts
     raise_fits : (n : Option Message) → IfSome n (LastReport past) → standing_rank n < rank warning
         → Fits (record { cancel = cancel_standing (size past) n; report = Some a_new })
     unfolding given_by noticed messages standing standing_after standing_rank cancel_standing cancel_of report_of last_cancel events
-    raise_fits None s outranked = ((admits_it _ new_admitted, tt), new_reached _ ms refl refl refl r.last_cancel_by_now (λ q. refl))
-    raise_fits (Some m) s outranked =
-        let not-3 : warning ≡ 3 → m.warning ≡ 3 → ⊥ = λ q e. let z : rank m.warning ≡ rank warning = cc in omega arith in
-        ((cancel_passes m s, (admits_it _ new_admitted, tt)), new_reached _ (cancel_of (size past) m ∷ ms) refl refl refl (cancel_by_now m s) (λ q. rw (ne_eqb m.warning post_crash (not-3 q))))
+    raise_fits None s outranked = alone_fits
+    raise_fits (Some m) s outranked = go (ends_without_message m.warning) refl
+      where
+        not-3 : warning ≡ 3 → m.warning ≡ 3 → ⊥
+        not-3 q e = let z : rank m.warning ≡ rank warning = cc in omega arith
+
+        go : (b : Bool) → ends_without_message m.warning ≡ b → Fits (record { cancel = cond b None (Some (cancel_of (size past) m)); report = Some a_new })
+        go true e = alone_fits
+        go false e =
+            ((cancel_passes m s e, (admits_it _ new_admitted, tt)), new_reached _ (cancel_of (size past) m ∷ ms) refl refl refl (cancel_by_now m s) (λ q. rw (ne_eqb m.warning post_crash (not-3 q))))
 
   -- "A warning outranking the standing one triggers (with none standing, any)"
   overrule_fits : (S : Settings) (warning : ℕ) → Overruling S v warning → Fits (raise v warning)

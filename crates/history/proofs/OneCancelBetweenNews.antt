@@ -1,12 +1,13 @@
--- Between two neighbouring New messages there is exactly one Cancel.
+-- Between two neighbouring New messages there is exactly one Cancel where the earlier is not of 4, and none where it is.
 -- Assumes nothing.
 use mathlib.Core.Path.{◌≡◌, sym, ◌∙◌}
-use mathlib.Core.Bool.{true}
+use mathlib.Core.Bool.{true, cond}
 use mathlib.Core.List.{List, [], ◌∷◌, ◌++◌, reverse_aux, reverse_aux-append}
 use Prim.Native.Nat.{◌+◌}
 use native.Mathlib.Omega.{arith}
 use borrow.Author.Tests.{eqb-true}
-use Rattle.warnings.specs.Warnings.{new}
+use lib.Dec.{eqb}
+use Rattle.warnings.specs.Warnings.{new, unresponsive_driver}
 use Rattle.sample.specs.declared.Sample.{Sample}
 use Rattle.message.specs.declared.Message.{Message}
 use Rattle.history.specs.Rules.{Settings}
@@ -31,9 +32,9 @@ until_new (n ∷ mid) m b ms k z o = go (in_order_before (mid ++ (m ∷ b)) (n �
     go (an_update_lem l d v) y ih = rw l (ih (rw l at y) ∙ d)
     go (a_cancel l d v) y ih = let c : cancels mid ≡ 0 = rw l at (ih (rw l at y)) in rw (l, d, c)
 
--- "Two New messages are neighbouring if no New lies between them": then one Cancel lies between them
+-- "One Cancel stands between neighbouring New messages where the earlier isn't of 4, none where it is." (CR 1); "Two New messages are neighbouring if no New lies between them"
 pub one_cancel_between_news : (S : Settings) (xs : List Sample) (a : List Message) (n : Message) (mid : List Message) (m : Message) (b : List Message)
-    → given_during S [] xs ≡ a ++ (n ∷ (mid ++ (m ∷ b))) → is_new n ≡ true → is_new m ≡ true → events mid ≡ 0 → cancels mid ≡ 1
+    → given_during S [] xs ≡ a ++ (n ∷ (mid ++ (m ∷ b))) → is_new n ≡ true → is_new m ≡ true → events mid ≡ 0 → cancels mid ≡ cond (eqb n.warning unresponsive_driver) 0 1
 unfolding messages due
 one_cancel_between_news S xs a n mid m b e first second none =
     let o : InOrder (reverse_aux (n ∷ (mid ++ (m ∷ b))) (reverse_aux a [])) =

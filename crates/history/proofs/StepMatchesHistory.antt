@@ -15,10 +15,10 @@ use Rattle.message.specs.declared.Message.{Message}
 use Rattle.history.specs.declared.Log.{Log}
 use Rattle.history.specs.declared.State.{State}
 use Rattle.history.specs.declared.Decision.{Decision}
-use Rattle.history.specs.Rules.{Settings, decide, noticed, given_by}
-use Rattle.history.specs.History.{Past, Fact, present, never, size, run, during, some_from, held, off_held, filter_after, stationary, condition_a, condition_b, condition_c, condition_d, one_of_a_to_d, one_of_e_to_h, was_ignited, messages, standing_after, standing, events, started, last_cancel, counted_from, counted, ready, cycle_of, ecall_pressed, low_severity, high_severity, highest_quality, view_of, given_at, tick_of, after, given_during}
+use Rattle.history.specs.Rules.{Settings, decide, lasting, noticed, given_by}
+use Rattle.history.specs.History.{Past, Fact, present, never, size, run, during, some_from, held, off_held, filter_after, stationary, condition_a, condition_b, condition_c, condition_d, one_of_a_to_d, one_of_e_to_h, was_ignited, messages, standing_after, driver_unresponsive, standing, events, started, last_cancel, counted_from, counted, ready, cycle_of, ecall_pressed, low_severity, high_severity, highest_quality, view_of, given_at, tick_of, after, given_during}
 use Rattle.history.specs.Runs.{facts, facts_of, runs_after, runs_of}
-use Rattle.history.specs.State.{fresh, conditions_at, cycle_after, with_sample, quality_from, seen, logged, logged_notice, with_log, step, state_after, steps_give}
+use Rattle.history.specs.State.{fresh, conditions_at, cycle_after, log_lasting, with_sample, quality_from, seen, logged, logged_notice, with_log, step, state_after, steps_give}
 
 -- the log where n stands, of the messages, the newest first
 unfoldable pub log_of : Option Message → List Message → Log
@@ -43,7 +43,7 @@ fresh_matches = refl
 
 -- the sample is taken
 taken_matches : (x : Sample) (past : Past) → with_sample (state_of past) x ≡ state_of (present x ∷ past)
-unfolding with_sample facts_of runs_after conditions_at cycle_after size state_of runs_of facts log_of cycle_of run during filter_after stationary held off_held condition_a condition_b condition_c condition_d one_of_e_to_h ready was_ignited messages standing standing_after
+unfolding with_sample facts_of runs_after conditions_at cycle_after log_lasting size state_of runs_of facts log_of cycle_of run during filter_after stationary held off_held condition_a condition_b condition_c condition_d one_of_e_to_h ready was_ignited messages driver_unresponsive standing standing_after
 taken_matches x past = refl
 
 -- the messages are logged
@@ -65,8 +65,8 @@ both_logged a b n ms = rw (logged_matches a n ms) (logged_matches b _ _) ∙ joi
 given_matches : (x : Sample) (d : Decision) (past : Past)
     → with_log (state_of (present x ∷ past)) (logged_notice (logged_notice (state_of (present x ∷ past)).log d.cancel) d.report)
     ≡ state_of (record { sample = x; given = given_by d } ∷ past)
-unfolding with_log given_by state_of runs_of facts size filter_after run during cycle_of stationary held off_held condition_a condition_b condition_c condition_d one_of_e_to_h ready was_ignited messages standing standing_after
-given_matches x d past = rw (both_logged d.cancel d.report (standing past) (messages past))
+unfolding with_log given_by state_of runs_of facts size filter_after run during cycle_of stationary held off_held condition_a condition_b condition_c condition_d one_of_e_to_h ready was_ignited messages driver_unresponsive standing standing_after
+given_matches x d past = rw (both_logged d.cancel d.report (lasting (driver_unresponsive (present x) past) (standing past)) (messages past))
 
 -- ---- a happening from tick j on, by the run of ticks without one
 

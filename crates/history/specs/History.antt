@@ -1,4 +1,4 @@
--- The history reading of document 01: it sees all accepted samples and the messages given before, looks back over them, and keeps nothing.
+-- The history reading of document 01 and of CR 1: it sees all accepted samples and the messages given before, looks back over them, and keeps nothing.
 -- Assumes nothing.
 use Rattle.std.specs.Prelude.{ℕ, ◌+◌, ◌-◌, max, Bool, false, not, ◌&&◌, ◌||◌, cond, leb, ltb, eqb, Option, Some, None}
 use mathlib.Core.List.{List, [], ◌∷◌, ◌++◌, reverse_aux}
@@ -11,7 +11,7 @@ use Rattle.filter.specs.Filter.{next, is_at_most_8}
 use Rattle.message.specs.declared.Message.{Message}
 use Rattle.history.specs.declared.Cycle.{Cycle}
 use Rattle.history.specs.declared.View.{View}
-use Rattle.history.specs.Rules.{Settings, rank, standing_rank, decide, given_by}
+use Rattle.history.specs.Rules.{Settings, rank, standing_rank, unresponsive, decide, lasting, given_by}
 
 -- a tick that has passed: its sample, and the messages given at it in their order
 pub record Tick : Type 0 where
@@ -147,10 +147,18 @@ unfoldable pub standing_after : Option Message → List Message → Option Messa
 standing_after n [] = n
 standing_after n (m ∷ ms) = standing_after (cond (is_cancel m) None (Some m)) ms
 
--- the standing warning's last New or Update; "before tick 0 none stands"
+-- "Happening bit 4 says that the function is active." (CR 1)
+abbrev pub mitigation_active : Fact
+mitigation_active t past = (happenings_of t.sample).mitigation
+
+-- "the bit is set and the vehicle isn't still" (CR 1)
+unfoldable pub driver_unresponsive : Fact
+driver_unresponsive t past = unresponsive (stationary t past) t.sample
+
+-- the standing warning's last New or Update, by what lasts at each tick (CR 1) and what its messages leave; "before tick 0 none stands"
 unfoldable pub standing : Past → Option Message
 standing [] = None
-standing (t ∷ past) = standing_after (standing past) t.given
+standing (t ∷ past) = standing_after (lasting (driver_unresponsive t past) (standing past)) t.given
 
 -- "the count of New messages so far"
 unfoldable pub events : List Message → ℕ

@@ -8,4 +8,5 @@ pub mod TickWords
 pub mod InWords
 pub mod BenchStops
 pub mod FurtherStops
+pub mod DriverStops
 pub mod RangeExamples

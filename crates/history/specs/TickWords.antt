@@ -1,4 +1,4 @@
--- Document 01's sentences on ticks ("The history reading"), with its numbers of ticks a, i, j and k, to compare the look-backs of `History` with.
+-- Document 01's sentences on ticks ("The history reading") and CR 1's, with its numbers of ticks a, i, j and k, to compare the look-backs of `History` with.
 -- Assumes nothing.
 use Rattle.std.specs.Prelude.{◌≡◌, ◌⊎◌, Bool, true, false, ◌&&◌, cond, List, [], ◌∷◌, ◌++◌, ℕ, ◌+◌, ◌-◌, ◌*◌, ◌≤◌, ◌<◌, eqb, pos, ◌+ℤ◌, ◌-ℤ◌, ◌*ℤ◌, ◌<ℤ◌}
 use Rattle.warnings.specs.Warnings.{post_crash, validity_of, road_type_of}
@@ -8,7 +8,7 @@ use Rattle.sample.specs.Sample.{switches_of}
 use Rattle.message.specs.declared.Message.{Message}
 use Rattle.history.specs.declared.View.{View}
 use Rattle.history.specs.Rules.{Settings, rank, overrules}
-use Rattle.history.specs.History.{Past, Fact, never, size, stationary, parked, idling, braked, belted, ignited, door_open, boot_open, bonnet_open, condition_a, condition_b, condition_c, condition_d, one_of_e_to_h, is_new, is_cancel, ready, ecall_pressed, low_severity, high_severity}
+use Rattle.history.specs.History.{Past, Fact, never, size, stationary, parked, idling, braked, belted, ignited, door_open, boot_open, bonnet_open, condition_a, condition_b, condition_c, condition_d, one_of_e_to_h, is_new, is_cancel, ready, ecall_pressed, low_severity, high_severity, mitigation_active}
 use Rattle.history.specs.Standing.{among, Stands}
 
 -- whether the history has a tick k and p is true at it
@@ -126,6 +126,16 @@ pub record Highest (h : Past) (f i q : ℕ) : Type 0 where
   pub one_of_them : (q ≡ 0) ⊎ AtSome (happening q) h f i
   pub at_least_each : (r : ℕ) → AtSome (happening r) h f i → r ≤ q
 
+-- ---- warning 4, after CR 1
+
+-- "Warning 4 triggers while the bit is set and the vehicle isn't still.": at tick i
+abbrev pub DriverTriggers : Past → ℕ → Type 0
+DriverTriggers h i = (at_tick mitigation_active h i ≡ true) × (at_tick stationary h i ≡ false)
+
+-- "at rule 2 when the bit clears or the vehicle is still": at tick i
+abbrev pub DriverEnds : Past → ℕ → Type 0
+DriverEnds h i = (at_tick mitigation_active h i ≡ false) ⊎ (at_tick stationary h i ≡ true)
+
 -- ---- rules 2 and 3
 
 -- "not still at each tick i-50 to i (warning 3: i-150 to i, U), none before its New": d is 50 or 150, n the tick of its New
@@ -179,6 +189,8 @@ pub record Fields (h : Past) (i : ℕ) (x : Sample) (f : ℕ) (m : Message) : Ty
   pub quality : (m.warning ≡ 1) ⊎ (m.warning ≡ 2) → Graded h i m.quality
   -- "For 3: the highest of .., among happenings from the first counted tick of its New up to now."
   pub quality_of_3 : m.warning ≡ 3 → Highest h f i m.quality
+  -- of 4, "quality is 1" (CR 1)
+  pub quality_of_4 : m.warning ≡ 4 → m.quality ≡ 1
   pub roadtype : m.roadtype ≡ road_type_of x.road
   -- "whole minutes of the unbroken still run, now minus its first tick", a; "0 .. or not still"
   pub since : (a : ℕ) → LongestRun stationary h a i → SinceCode (i - a) m.since

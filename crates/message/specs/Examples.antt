@@ -1,6 +1,6 @@
--- The message record by examples: nine messages in bytes, the bounds and the order of its checks, after document 01, "The message" and "What is turned down".
+-- The message record by examples: eleven messages in bytes, the bounds and the order of its checks, after document 01, "The message" and "What is turned down".
 -- Assumes nothing.
-use Rattle.std.specs.Prelude.{ℕ, ◌-◌, ◌≡◌, false, cond, ◌||◌, eqb, ℤ, pos, get_or, take, Ok, Err}
+use Rattle.std.specs.Prelude.{ℕ, ◌-◌, ◌≡◌, false, cond, ◌||◌, eqb, ℤ, pos, get_or, take, replicate, Ok, Err}
 use mathlib.Core.List.{List, [], ◌∷◌, ◌++◌, map, foldl}
 use Rattle.wire.specs.Words.{bytes_of}
 use Rattle.wire.specs.Memory.{splice}
@@ -35,9 +35,9 @@ pub record Example : Type 0 where
 abbrev pub example : Message → List ℕ → Example
 example fields bytes = record { fields = fields; bytes = bytes }
 
--- New of warnings 1, 2, 3, then Update, then Cancel: bytes 0-7, 8-19, 20-31
-unfoldable pub nine : List Example
-nine =
+-- New of warnings 1, 2, 3, 4, then Update of each, then Cancel of 1, 2, 3: bytes 0-7, 8-19, 20-31
+unfoldable pub eleven : List Example
+eleven =
     example (message 1 1 2 3 0 1193046 6636321 6636321 (minus 654321) (pos 123456) 2569 30)
     ((1 ∷ 1 ∷ 0 ∷ 94 ∷ 2 ∷ 3 ∷ 1 ∷ 0 ∷ [])
     ++ (86 ∷ 52 ∷ 18 ∷ 0 ∷ 33 ∷ 67 ∷ 101 ∷ 0 ∷ 33 ∷ 67 ∷ 101 ∷ 0 ∷ [])
@@ -50,6 +50,10 @@ nine =
     ((1 ∷ 3 ∷ 3 ∷ 94 ∷ 1 ∷ 0 ∷ 0 ∷ 2 ∷ [])
     ++ (127 ∷ 150 ∷ 152 ∷ 0 ∷ 112 ∷ 17 ∷ 1 ∷ 0 ∷ 112 ∷ 17 ∷ 1 ∷ 0 ∷ [])
     ++ (192 ∷ 189 ∷ 240 ∷ 255 ∷ 64 ∷ 66 ∷ 15 ∷ 0 ∷ 0 ∷ 0 ∷ 180 ∷ 0 ∷ []))
+    ∷ example (message 1 4 1 1 0 5 300 300 (pos 7) (minus 9) 450 2)
+    ((1 ∷ 4 ∷ 8 ∷ 99 ∷ 1 ∷ 1 ∷ 1 ∷ 0 ∷ [])
+    ++ (5 ∷ 0 ∷ 0 ∷ 0 ∷ 44 ∷ 1 ∷ 0 ∷ 0 ∷ 44 ∷ 1 ∷ 0 ∷ 0 ∷ [])
+    ++ (7 ∷ 0 ∷ 0 ∷ 0 ∷ 247 ∷ 255 ∷ 255 ∷ 255 ∷ 194 ∷ 1 ∷ 2 ∷ 0 ∷ []))
     ∷ example (message 2 1 3 1 2 770 1029 1029 (pos 1286) (minus 1543) 1800 30)
     ((2 ∷ 1 ∷ 0 ∷ 94 ∷ 3 ∷ 1 ∷ 1 ∷ 2 ∷ [])
     ++ (2 ∷ 3 ∷ 0 ∷ 0 ∷ 5 ∷ 4 ∷ 0 ∷ 0 ∷ 5 ∷ 4 ∷ 0 ∷ 0 ∷ [])
@@ -62,6 +66,10 @@ nine =
     ((2 ∷ 3 ∷ 3 ∷ 94 ∷ 2 ∷ 2 ∷ 0 ∷ 0 ∷ [])
     ++ (128 ∷ 150 ∷ 152 ∷ 0 ∷ 127 ∷ 150 ∷ 152 ∷ 0 ∷ 127 ∷ 150 ∷ 152 ∷ 0 ∷ [])
     ++ (63 ∷ 66 ∷ 15 ∷ 0 ∷ 194 ∷ 189 ∷ 240 ∷ 255 ∷ 16 ∷ 14 ∷ 180 ∷ 0 ∷ []))
+    ∷ example (message 2 4 1 255 3 197637 2571 2571 (minus 1) (pos 258) 3599 2)
+    ((2 ∷ 4 ∷ 8 ∷ 99 ∷ 1 ∷ 255 ∷ 0 ∷ 3 ∷ [])
+    ++ (5 ∷ 4 ∷ 3 ∷ 0 ∷ 11 ∷ 10 ∷ 0 ∷ 0 ∷ 11 ∷ 10 ∷ 0 ∷ 0 ∷ [])
+    ++ (255 ∷ 255 ∷ 255 ∷ 255 ∷ 2 ∷ 1 ∷ 0 ∷ 0 ∷ 15 ∷ 14 ∷ 2 ∷ 0 ∷ []))
     ∷ example (message 3 1 2 255 3 66051 263430 460809 (minus 65807) (pos 131844) 1284 30)
     ((3 ∷ 1 ∷ 0 ∷ 94 ∷ 2 ∷ 255 ∷ 0 ∷ 3 ∷ [])
     ++ (3 ∷ 2 ∷ 1 ∷ 0 ∷ 6 ∷ 5 ∷ 4 ∷ 0 ∷ 9 ∷ 8 ∷ 7 ∷ 0 ∷ [])
@@ -78,7 +86,11 @@ nine =
 
 -- the New of a warning among them
 abbrev pub new_of : ℕ → List ℕ
-new_of warning = get_or (map (λ e. e.bytes) nine) (warning - 1) []
+new_of warning = get_or (map (λ e. e.bytes) eleven) (warning - 1) []
+
+-- the refusals of the New of each warning with each byte at place p
+abbrev pub by_warning_and_byte : ℕ → List (List ℕ)
+by_warning_and_byte p = map (λ w. refusals_of_byte message_read (new_of w) p) (1 ∷ 2 ∷ 3 ∷ 4 ∷ [])
 
 -- 0 for these bytes, 14 for every other
 unfoldable pub pass_only : List ℕ → List ℕ
@@ -99,8 +111,8 @@ of_quality quality = message 1 1 quality 0 0 1 2 2 (pos 3) (pos 4) 5 30
 
 pub record MessageExamples : Type 0 where
   -- "32 bytes, little-endian"
-  pub written : map (λ e. encode e.fields) nine ≡ map (λ e. e.bytes) nine
-  pub read_back : map (λ e. message_read e.bytes) nine ≡ map (λ e. accepted e.fields) nine
+  pub written : map (λ e. encode e.fields) eleven ≡ map (λ e. e.bytes) eleven
+  pub read_back : map (λ e. message_read e.bytes) eleven ≡ map (λ e. accepted e.fields) eleven
   -- what 14 would turn down is laid out in the same way
   pub any_fields : encode (message 250 251 252 253 254 67305985 134678021 202050057 (pos 269422093) (minus 1810689519) 5653 6167)
       ≡ (250 ∷ 251 ∷ 0 ∷ 0 ∷ 252 ∷ 253 ∷ 0 ∷ 254 ∷ [])
@@ -108,24 +120,23 @@ pub record MessageExamples : Type 0 where
       ++ (13 ∷ 14 ∷ 15 ∷ 16 ∷ 17 ∷ 18 ∷ 19 ∷ 148 ∷ 21 ∷ 22 ∷ 23 ∷ 24 ∷ [])
   -- "13 message not 32 bytes.", before 14
   pub length : refusals message_read ([] ∷ take 31 (new_of 1) ∷ (new_of 1 ++ (0 ∷ [])) ∷ []) ≡ 13 ∷ 13 ∷ 13 ∷ []
-  -- "0 kind (1 New, 2 Update, 3 Cancel); 1 warning"
-  pub kind : refusals_of_byte message_read (new_of 1) 0 ≡ pass_only (1 ∷ 2 ∷ 3 ∷ [])
-  pub warning : refusals message_read (no_warning 0 ∷ no_warning 4 ∷ []) ≡ 14 ∷ 14 ∷ []
-  -- "sub cause or validity not of its warning"
-  pub subcause : map (λ w. refusals_of_byte message_read (new_of w) 2) (1 ∷ 2 ∷ 3 ∷ []) ≡ pass_only (0 ∷ []) ∷ pass_only (2 ∷ []) ∷ pass_only (3 ∷ []) ∷ []
-  pub validity : map (λ w. refusals_of_byte message_read (new_of w) 30) (1 ∷ 2 ∷ 3 ∷ [])
-      ≡ pass_only (30 ∷ []) ∷ pass_only (30 ∷ 180 ∷ []) ∷ pass_only (180 ∷ []) ∷ []
-  pub validity_high : refusals_of_byte message_read (new_of 2) 31 ≡ pass_only (0 ∷ [])
-  -- "3 cause 94"
-  pub cause : refusals_of_byte message_read (new_of 1) 3 ≡ pass_only (94 ∷ [])
-  -- the values of "Quality"
-  pub quality : refusals_of_byte message_read (new_of 1) 4 ≡ pass_only (1 ∷ 2 ∷ 3 ∷ [])
+  -- "0 kind (1 New, 2 Update, 3 Cancel); 1 warning"; of 4, "never a Cancel" (CR 1)
+  pub kind : by_warning_and_byte 0 ≡ pass_only (1 ∷ 2 ∷ 3 ∷ []) ∷ pass_only (1 ∷ 2 ∷ 3 ∷ []) ∷ pass_only (1 ∷ 2 ∷ 3 ∷ []) ∷ pass_only (1 ∷ 2 ∷ []) ∷ []
+  pub warning : refusals message_read (no_warning 0 ∷ no_warning 5 ∷ []) ≡ 14 ∷ 14 ∷ []
+  -- "sub cause or validity not of its warning"; of 4, "sub cause 8, validity 2" (CR 1)
+  pub subcause : by_warning_and_byte 2 ≡ pass_only (0 ∷ []) ∷ pass_only (2 ∷ []) ∷ pass_only (3 ∷ []) ∷ pass_only (8 ∷ []) ∷ []
+  pub validity : by_warning_and_byte 30 ≡ pass_only (30 ∷ []) ∷ pass_only (30 ∷ 180 ∷ []) ∷ pass_only (180 ∷ []) ∷ pass_only (2 ∷ []) ∷ []
+  pub validity_high : by_warning_and_byte 31 ≡ replicate 4 (pass_only (0 ∷ []))
+  -- "3 cause 94"; of 4, "cause 99" (CR 1)
+  pub cause : by_warning_and_byte 3 ≡ pass_only (94 ∷ []) ∷ pass_only (94 ∷ []) ∷ pass_only (94 ∷ []) ∷ pass_only (99 ∷ []) ∷ []
+  -- the values of "Quality"; of 4, "quality is 1" (CR 1)
+  pub quality : by_warning_and_byte 4 ≡ pass_only (1 ∷ 2 ∷ 3 ∷ []) ∷ pass_only (1 ∷ 2 ∷ 3 ∷ []) ∷ pass_only (1 ∷ 2 ∷ 3 ∷ []) ∷ pass_only (1 ∷ []) ∷ []
   -- the values of "roadType", "direction not of its roadType"
   pub road_type_0 : refusals_of_byte message_read (splice (new_of 1) 6 (0 ∷ [])) 5 ≡ pass_only (0 ∷ 2 ∷ 255 ∷ [])
   pub road_type_1 : refusals_of_byte message_read (splice (new_of 1) 6 (1 ∷ [])) 5 ≡ pass_only (1 ∷ 3 ∷ [])
   pub direction : refusals_of_byte message_read (new_of 1) 6 ≡ pass_only (1 ∷ [])
   -- the values of "stationarySince"
-  pub since : refusals_of_byte message_read (new_of 1) 7 ≡ pass_only (0 ∷ 1 ∷ 2 ∷ 3 ∷ [])
+  pub since : map (λ w. refusals_of_byte message_read (new_of w) 7) (1 ∷ 4 ∷ []) ≡ pass_only (0 ∷ 1 ∷ 2 ∷ 3 ∷ []) ∷ pass_only (0 ∷ 1 ∷ 2 ∷ 3 ∷ []) ∷ []
   -- "event not 1 to 10,000,000; reference over 9,999,999"
   pub event : refusals_at message_read (new_of 1) 8 (map (bytes_of 4) (0 ∷ 1 ∷ 10000000 ∷ 10000001 ∷ [])) ≡ 14 ∷ 0 ∷ 0 ∷ 14 ∷ []
   pub reference : refusals_at message_read (new_of 1) 12 (map (λ n. bytes_of 4 n ++ bytes_of 4 n) (0 ∷ 9999999 ∷ 10000000 ∷ [])) ≡ 0 ∷ 0 ∷ 14 ∷ []

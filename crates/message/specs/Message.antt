@@ -48,7 +48,7 @@ message_of s = record {
   validity = word 2 s 30;
 }
 
--- "sub cause .. not of its warning; direction not of its roadType", and "3 cause 94"
+-- "sub cause .. not of its warning; direction not of its roadType", and "3 cause 94"; of 4, "cause 99, sub cause 8" (CR 1)
 unfoldable pub derived_fit : List ℕ → Bool
 derived_fit s =
     all_hold
@@ -60,7 +60,7 @@ derived_fit s =
 -- the values that 14 lets pass, field by field
 unfoldable pub field_tests : Message → List Bool
 field_tests m =
-    -- "0 kind (1 New, 2 Update, 3 Cancel); 1 warning", and the values of "Quality"
+    -- "0 kind (1 New, 2 Update, 3 Cancel); 1 warning", and the values of "Quality"; "14 admits warning 4 with these values only and never a Cancel" (CR 1)
     leb new m.kind
     ∷ leb m.kind (row_of m.warning).kinds
     ∷ leb 1 m.warning

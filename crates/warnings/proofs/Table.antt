@@ -1,18 +1,18 @@
--- The table per warning: its rule, proved over all rows by one computed test, and its laws by each warning in turn and for every other number.
+-- The table per warning: its rule, proved over all rows, and its laws by each warning in turn and for every other number.
 -- Assumes nothing.
 use mathlib.Core.Path.{◌≡◌, refl, sym}
 use mathlib.Core.Logic.{inl, inr}
 use mathlib.Core.Bool.{Bool, true, false, ◌&&◌, ◌||◌}
 use mathlib.Core.List.Memᴰ
-use mathlib.Core.List.{List, [], ◌∷◌, Memᴰ}
+use mathlib.Core.List.{List, [], ◌∷◌, map, Memᴰ}
 use Prim.Native.Nat.{ℕ, zero, suc, ◌+◌, ◌-◌, ◌≤◌, ◌<◌}
 use native.Mathlib.Omega.{arith}
-use borrow.Author.Tests.{eqb-true, eqb-false}
-use lib.Dec.{T, ltb, eqb, ltb→lt, eqb→eq}
+use borrow.Author.Tests.{eqb-true, eqb-false, leb-true, leb-false}
+use lib.Dec.{T, leb, ltb, eqb, ltb→lt}
 use lib.Ieee.Fits.{and_l, and_r}
 use lib.ListN.{length, get_or, get_or-eq_default}
-use Rattle.wire.specs.Tests.{all_hold}
-use Rattle.wire.proofs.Tests.{holds_at}
+use Rattle.std.specs.List.{range_with_len}
+use Rattle.std.proofs.lemmas.List.FromFn.{get_or-map-range_with_len}
 use Rattle.warnings.specs.Warnings.{warning_count, by_rank, by_warning, row_of, validity_of}
 use Rattle.warnings.specs.declared.Row.{Row}
 
@@ -58,132 +58,39 @@ any_number f column w t = at_any f (0 ∷ column) w (and_l (f 0) (every f column
 
 -- ---- the rows
 
--- the table, as the code has it
+-- the table that the code has, row by row: the rows of the warnings
 unfoldable pub rows : List Row
-rows =
-    record {
-      cause = 94;
-      subcause = 0;
-      relevance = 4;
-      trafficclass = 1;
-      rank = 1;
-      kinds = 3;
-      qualities = 3;
-      period = 150;
-      delay = 50;
-      validityon = 30;
-      validityoff = 30;
-    }
-    ∷ record {
-      cause = 94;
-      subcause = 2;
-      relevance = 4;
-      trafficclass = 1;
-      rank = 2;
-      kinds = 3;
-      qualities = 3;
-      period = 150;
-      delay = 50;
-      validityon = 30;
-      validityoff = 180;
-    }
-    ∷ record {
-      cause = 94;
-      subcause = 3;
-      relevance = 4;
-      trafficclass = 1;
-      rank = 3;
-      kinds = 3;
-      qualities = 3;
-      period = 600;
-      delay = 150;
-      validityon = 180;
-      validityoff = 180;
-    }
-    ∷ []
+rows = map row_of (range_with_len 1 warning_count)
 
 abbrev pub no_row : Row
-no_row = record {
-  cause = 0;
-  subcause = 0;
-  relevance = 0;
-  trafficclass = 0;
-  rank = 0;
-  kinds = 0;
-  qualities = 0;
-  period = 0;
-  delay = 0;
-  validityon = 0;
-  validityoff = 0;
-}
-
--- two rows are equal, column by column
-abbrev column_tests : Row → Row → List Bool
-column_tests a b =
-    eqb a.cause b.cause
-    ∷ eqb a.subcause b.subcause
-    ∷ eqb a.relevance b.relevance
-    ∷ eqb a.trafficclass b.trafficclass
-    ∷ eqb a.rank b.rank
-    ∷ eqb a.kinds b.kinds
-    ∷ eqb a.qualities b.qualities
-    ∷ eqb a.period b.period
-    ∷ eqb a.delay b.delay
-    ∷ eqb a.validityon b.validityon
-    ∷ eqb a.validityoff b.validityoff
-    ∷ []
-
-same_row : Row → Row → Bool
-same_row a b = all_hold (column_tests a b)
-
-same_row_lem : (a b : Row) → T (same_row a b) → a ≡ b
-unfolding same_row
-same_row_lem a b t =
-    let at : (k : ℕ) → T (get_or (column_tests a b) k true) = holds_at (column_tests a b) t in
-    let e₀ = eqb→eq a.cause b.cause (at 0) in
-    let e₁ = eqb→eq a.subcause b.subcause (at 1) in
-    let e₂ = eqb→eq a.relevance b.relevance (at 2) in
-    let e₃ = eqb→eq a.trafficclass b.trafficclass (at 3) in
-    let e₄ = eqb→eq a.rank b.rank (at 4) in
-    let e₅ = eqb→eq a.kinds b.kinds (at 5) in
-    let e₆ = eqb→eq a.qualities b.qualities (at 6) in
-    let e₇ = eqb→eq a.period b.period (at 7) in
-    let e₈ = eqb→eq a.delay b.delay (at 8) in
-    let e₉ = eqb→eq a.validityon b.validityon (at 9) in
-    let e₁₀ = eqb→eq a.validityoff b.validityoff (at 10) in
-    let e : ◌≡◌ {A = Row} (record {
-      cause = a.cause;
-      subcause = a.subcause;
-      relevance = a.relevance;
-      trafficclass = a.trafficclass;
-      rank = a.rank;
-      kinds = a.kinds;
-      qualities = a.qualities;
-      period = a.period;
-      delay = a.delay;
-      validityon = a.validityon;
-      validityoff = a.validityoff;
-    }) b = simp (e₀, e₁, e₂, e₃, e₄, e₅, e₆, e₇, e₈, e₉, e₁₀) in
-    e
+no_row = row_of 0
 
 -- the rule: row w - 1 is that of warning w
 pub row_of_warning : (w : ℕ) → 1 ≤ w → w ≤ warning_count → get_or rows (w - 1) no_row ≡ row_of w
-unfolding rows row_of same_row all_hold
-row_of_warning w low high =
-    same_row_lem (get_or rows (w - 1) no_row) (row_of w) (each_passes (λ k. same_row (get_or rows (k - 1) no_row) (row_of k)) tt w low high)
+unfolding rows
+row_of_warning w low high = get_or-map-range_with_len row_of 1 warning_count (w - 1) w no_row (omega arith) (omega arith)
 
 -- the row of a number that is no warning
 pub no_row_lem : (w : ℕ) → (1 ≤ w → warning_count < w) → no_row ≡ row_of w
 unfolding row_of
 no_row_lem w h =
-    let z : (a b c : ℕ) → by_warning (a ∷ b ∷ c ∷ []) w ≡ 0 = λ a b c. no_warning_lem (a ∷ b ∷ c ∷ []) w h in
+    let z : (a b c d : ℕ) → by_warning (a ∷ b ∷ c ∷ d ∷ []) w ≡ 0 = λ a b c d. no_warning_lem (a ∷ b ∷ c ∷ d ∷ []) w h in
     sym (simp z)
+
+-- a test that is computed for the row of each warning, and for that of no warning, is passed by the row of any number
+pub any_row : (f : Row → Bool) → T (f no_row) → T (up_to (λ k. f (row_of k)) warning_count) → (w : ℕ) → T (f (row_of w))
+any_row f none each w = go (leb 1 w) (leb w warning_count) refl refl
+  where
+    go : (a b : Bool) → leb 1 w ≡ a → leb w warning_count ≡ b → T (f (row_of w))
+    go true true p q = each_passes (λ k. f (row_of k)) each w (leb-true 1 w p) (leb-true w warning_count q)
+    go true false p q = rw (no_row_lem w (λ h. leb-false w warning_count q)) at none
+    go false b p q = let l = leb-false 1 w p in rw (no_row_lem w (λ h. omega arith)) at none
 
 -- every validity is a byte
 pub validity_below : (w : ℕ) (ignition : Bool) → validity_of w ignition < 256
 unfolding validity_of row_of
-validity_below w true = ltb→lt _ _ (any_number (λ n. ltb n 256) (30 ∷ 30 ∷ 180 ∷ []) w tt)
-validity_below w false = ltb→lt _ _ (any_number (λ n. ltb n 256) (30 ∷ 180 ∷ 180 ∷ []) w tt)
+validity_below w true = ltb→lt _ _ (any_row (λ r. ltb r.validityon 256) tt tt w)
+validity_below w false = ltb→lt _ _ (any_row (λ r. ltb r.validityoff 256) tt tt w)
 
 -- ---- the warnings by rank
 

@@ -19,17 +19,27 @@ pub const BROKEN_DOWN: u8 = 2;
 
 pub const POST_CRASH: u8 = 3;
 
-pub const WARNINGS: u8 = 3;
+pub const UNRESPONSIVE_DRIVER: u8 = 4;
+
+pub const WARNINGS: u8 = 4;
 
 // The warnings, the highest rank first.
-pub const BY_RANK: [u8; WARNINGS as usize] = [POST_CRASH, BROKEN_DOWN, STOPPED];
+pub const BY_RANK: [u8; WARNINGS as usize] = [
+    POST_CRASH,
+    UNRESPONSIVE_DRIVER,
+    BROKEN_DOWN,
+    STOPPED,
+];
 
-// What is constant for a warning: for the record and for the sender, its rank, the highest kind and the greatest quality
-// that refusal 14 admits, ticks for the engine, and seconds of validity with ignition on and off.
+// What is constant for a warning: for the record and for the sender (a linked cause of 0 is none), its rank, the highest kind and the
+// greatest quality that refusal 14 admits, ticks for the engine, and seconds of validity with ignition on and off. No delay is asked of a
+// warning that ends without a Cancel.
 #[derive(Clone, Copy)]
 pub struct Row {
     pub cause: u8,
     pub subcause: u8,
+    pub linkedcause: u8,
+    pub linkedsubcause: u8,
     pub relevance: u8,
     pub trafficclass: u8,
     pub rank: u8,
@@ -45,6 +55,8 @@ const ROWS: [Row; WARNINGS as usize] = [
     Row {
         cause: 94,
         subcause: 0,
+        linkedcause: 0,
+        linkedsubcause: 0,
         relevance: 4,
         trafficclass: 1,
         rank: 1,
@@ -58,6 +70,8 @@ const ROWS: [Row; WARNINGS as usize] = [
     Row {
         cause: 94,
         subcause: 2,
+        linkedcause: 0,
+        linkedsubcause: 0,
         relevance: 4,
         trafficclass: 1,
         rank: 2,
@@ -71,9 +85,11 @@ const ROWS: [Row; WARNINGS as usize] = [
     Row {
         cause: 94,
         subcause: 3,
+        linkedcause: 0,
+        linkedsubcause: 0,
         relevance: 4,
         trafficclass: 1,
-        rank: 3,
+        rank: 4,
         kinds: CANCEL,
         qualities: 3,
         period: 600,
@@ -81,10 +97,26 @@ const ROWS: [Row; WARNINGS as usize] = [
         validityon: 180,
         validityoff: 180,
     },
+    Row {
+        cause: 99,
+        subcause: 8,
+        linkedcause: 93,
+        linkedsubcause: 3,
+        relevance: 4,
+        trafficclass: 0,
+        rank: 3,
+        kinds: UPDATE,
+        qualities: 1,
+        period: 5,
+        delay: 0,
+        validityon: 2,
+        validityoff: 2,
+    },
 ];
 
 // The table's row of a warning; zeros for a number that is no warning. No Option: the record may hold any byte there, and each caller is
-// exact for all of them.
+// exact for all of them. Put into its callers always: there a warning that is known leaves one number of the table.
+#[inline(always)]
 pub fn row_of(warning: u8) -> Row
     ensures { result ≡ row_of warning }
 {
@@ -96,6 +128,8 @@ pub fn row_of(warning: u8) -> Row
         _ => Row {
             cause: 0,
             subcause: 0,
+            linkedcause: 0,
+            linkedsubcause: 0,
             relevance: 0,
             trafficclass: 0,
             rank: 0,

@@ -100,7 +100,7 @@ fn bytes_of(samples: &[Sample]) -> Vec<u8> {
 // ------------------------------------------------------------- known examples
 
 /// Each scene sample by sample, in full blocks and mixed, its lines as
-/// document 01 has them.
+/// the documents have them.
 fn scenes_in_all_ways(comparison: &mut Comparison) {
     for scene in scenes::all() {
         play(comparison, &scene, |_| 0);
@@ -130,7 +130,7 @@ fn play(comparison: &mut Comparison, scene: &Scene, size: impl Fn(&mut Random) -
     let messages = comparison.reference.history.messages();
     let lines: Vec<String> = messages.iter().map(|m| printing::line(&m.record())).collect();
     if lines != scene.lines {
-        comparison.fail(&format!("lines {lines:?} where document 01 has {:?}", scene.lines));
+        comparison.fail(&format!("lines {lines:?} where the documents have {:?}", scene.lines));
     }
 }
 
@@ -255,28 +255,38 @@ fn writer_faults(comparison: &mut Comparison) {
     }
 }
 
-/// A good message of each kind and warning; the Cancel's detection is earlier
-/// than its reference.
+/// A good message of each kind and warning, but no Cancel of warning 4; the
+/// Cancel's detection is earlier than its reference.
 fn good_messages() -> Vec<Message> {
+    // Warning, quality, roadType, direction, stationarySince and validity.
+    let warnings = [
+        (STOPPED, 1, 0, 0, 2, 30),
+        (BROKEN_DOWN, 2, 3, 1, 1, 30),
+        (POST_CRASH, 3, ROAD_OMITTED, 0, 0, 180),
+        (UNRESPONSIVE_DRIVER, 1, 1, 1, 3, 2),
+    ];
     let mut messages = Vec::new();
     for kind in [kind::NEW, kind::UPDATE, kind::CANCEL] {
-        for warning in 1..=3 {
+        for (warning, quality, road_type, direction, stationary_since, validity) in warnings {
+            if kind == kind::CANCEL && !has_cancel(warning) {
+                continue;
+            }
             messages.push(Message {
                 kind,
                 warning,
                 sub_cause: rules(warning).sub_cause,
-                cause: CAUSE,
-                quality: warning,
-                road_type: [0, 3, ROAD_OMITTED][usize::from(warning) - 1],
-                direction: u8::from(warning == 2),
-                stationary_since: 3 - warning,
+                cause: rules(warning).cause,
+                quality,
+                road_type,
+                direction,
+                stationary_since,
                 event: 17,
                 detection: 300,
                 reference: if kind == kind::CANCEL { 9_999_999 } else { 300 },
                 east: -1_000_000,
                 north: 1_000_000,
                 heading: 3_601,
-                validity: if warning == 3 { 180 } else { 30 },
+                validity,
             });
         }
     }

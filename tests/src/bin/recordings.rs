@@ -5,7 +5,9 @@ use std::fs;
 use std::io;
 use std::path::Path;
 use yoldrim_tests::printing;
-use yoldrim_tests::reference::{block_of, gear, switch, Reference, Sample, BLOCK_SAMPLES};
+use yoldrim_tests::reference::{
+    block_of, gear, happening, switch, Reference, Sample, BLOCK_SAMPLES,
+};
 use yoldrim_tests::scenes::stopped;
 
 fn main() -> io::Result<()> {
@@ -33,6 +35,7 @@ fn all() -> Vec<(&'static str, Vec<u8>)> {
         ("blocks-short-piece", [&stop[..], &stop[..1]].concat()),
         ("refused-then-good", [&stop[..512 * 5], &damaged, &after].concat()),
         ("long-text", blocks(0..5000, flickering)),
+        ("unresponsive-driver", blocks(0..100, unresponsive)),
     ]
 }
 
@@ -66,5 +69,21 @@ fn flickering(sample: &mut Sample) {
     sample.switches |= switch::DOOR;
     if sample.tick % 2 == 1 {
         sample.switches &= !switch::HAZARD;
+    }
+}
+
+/// The risk mitigation function stops the vehicle, still first at 9 and with a
+/// door open: warning 4 from 0, ended at 9, and warning 1 at 30. From 60 on it
+/// moves again with the function active, until a crash at 72.
+fn unresponsive(sample: &mut Sample) {
+    sample.speed = match sample.tick {
+        0 => 100,
+        1..60 => 0,
+        _ => 1_000,
+    };
+    sample.switches |= switch::DOOR;
+    sample.happenings = happening::MITIGATION;
+    if sample.tick == 72 {
+        sample.happenings |= happening::HIGH_SEVERITY;
     }
 }

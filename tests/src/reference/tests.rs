@@ -1,4 +1,4 @@
-//! Document 01's examples, on the second implementation alone.
+//! The documents' examples, on the second implementation alone.
 
 use super::*;
 use crate::printing;
@@ -73,6 +73,106 @@ fn a_cancel_repeats_the_last_new_or_update() {
     };
     assert_eq!((new.road_type, new.direction, new.east, new.heading), (3, 1, 300, 90));
     assert_eq!(*cancel, Message { kind: kind::CANCEL, reference: 360, ..*new });
+}
+
+/// Moving on road 2 with a door open for more than 31 samples, the function
+/// active from tick 40 on.
+fn unresponsive() -> History {
+    let sample = |tick| Sample {
+        speed: 1_400,
+        switches: switch::IGNITION | switch::DOOR,
+        happenings: if tick >= 40 { happening::MITIGATION } else { 0 },
+        road: 2,
+        heading: 2_711,
+        east: 1_000 - 3 * tick as i32,
+        north: 5 * tick as i32,
+        ..stopped(tick)
+    };
+    played(&(0..48).map(sample).collect::<Vec<_>>())
+}
+
+#[test]
+fn warning_4_in_every_field() {
+    let new = Message {
+        kind: kind::NEW,
+        warning: 4,
+        sub_cause: 8,
+        cause: 99,
+        quality: 1,
+        road_type: 1,
+        direction: 1,
+        stationary_since: 0,
+        event: 1,
+        detection: 40,
+        reference: 40,
+        east: 880,
+        north: 200,
+        heading: 2_711,
+        validity: 2,
+    };
+    let update =
+        Message { kind: kind::UPDATE, detection: 45, reference: 45, east: 865, north: 225, ..new };
+    assert_eq!(unresponsive().messages(), [new, update]);
+}
+
+#[test]
+fn the_record_of_warning_4_by_hand() {
+    #[rustfmt::skip]
+    let new = [
+        1, 4, 8, 99, 1, 1, 1, 0,
+        1, 0, 0, 0, 40, 0, 0, 0, 40, 0, 0, 0,
+        0x70, 3, 0, 0, 200, 0, 0, 0, 0x97, 10, 2, 0,
+    ];
+    assert_eq!(unresponsive().messages()[0].record(), new);
+    assert_eq!(Message::from_record(&new), Ok(unresponsive().messages()[0]));
+}
+
+#[test]
+fn refusal_14_admits_warning_4_with_its_values_only() {
+    let new = unresponsive().messages()[0];
+    let admitted = |message: Message| Message::from_record(&message.record()).is_ok();
+    assert!(admitted(Message { kind: kind::UPDATE, stationary_since: 3, ..new }));
+    assert!(!admitted(Message { stationary_since: 4, ..new }));
+    assert!(!admitted(Message { kind: kind::CANCEL, ..new }));
+    assert!(!admitted(Message { kind: kind::CANCEL, reference: 41, ..new }));
+    assert!(!admitted(Message { quality: 0, ..new }));
+    assert!(!admitted(Message { quality: 2, ..new }));
+    assert!(!admitted(Message { quality: 3, ..new }));
+    assert!(!admitted(Message { cause: 94, ..new }));
+    assert!(!admitted(Message { sub_cause: 3, ..new }));
+    assert!(!admitted(Message { validity: 30, ..new }));
+    assert!(!admitted(Message { validity: 180, ..new }));
+    for warning in [STOPPED, BROKEN_DOWN, POST_CRASH, 5] {
+        assert!(!admitted(Message { warning, ..new }));
+    }
+    let stopped = played(&scenes::bench_stops()[0].samples).messages()[0];
+    assert!(admitted(stopped));
+    assert!(!admitted(Message { cause: 99, ..stopped }));
+    assert!(!admitted(Message { validity: 2, ..stopped }));
+    assert!(!admitted(Message { warning: UNRESPONSIVE_DRIVER, ..stopped }));
+}
+
+#[test]
+fn refusal_5_covers_bits_5_to_7() {
+    let read = |happenings| Sample::from_bytes(&Sample { happenings, ..stopped(0) }.to_bytes());
+    assert_eq!(read(0x1F).map(|sample| sample.happenings), Ok(0x1F));
+    for bit in 5..=7 {
+        assert_eq!(read(1 << bit), Err(Refusal(5)));
+    }
+}
+
+#[test]
+fn warning_4_stands_from_its_new_to_the_tick_that_ends_it() {
+    let scenes = scenes::all();
+    let stop = scenes.iter().find(|s| s.name.starts_with("4 ends at 9")).unwrap();
+    let history = played(&stop.samples);
+    assert_eq!((0..=8).map(|i| history.stood_before(i + 1)).collect::<Vec<_>>(), [4; 9]);
+    assert_eq!([9, 309, 310].map(|i| history.stood_before(i + 1)), [NONE, NONE, STOPPED]);
+}
+
+#[test]
+fn ranks_are_1_2_4_3() {
+    assert_eq!([NONE, 1, 2, 4, 3].map(rank), [0, 1, 2, 3, 4]);
 }
 
 #[test]
