@@ -2,12 +2,10 @@
 -- Assumes nothing.
 use mathlib.Core.Path.{◌≡◌, refl, ap}
 use mathlib.Core.Logic.{◌↔◌, ◌⊎◌, inl, inr}
-use mathlib.Core.Bool.{Bool, true, false, not, ◌&&◌, cond, true≢false, false≢true}
+use mathlib.Core.Bool.{Bool, true, false, not, ◌&&◌, true≢false, false≢true}
 use mathlib.Core.List.{◌∷◌}
-use Prim.Native.Nat.{◌+◌}
-use native.Mathlib.Omega.{arith}
 use lib.Dec.{ltb}
-use borrow.Author.Tests.{eq-eqb, lt-ltb, ne_eqb}
+use borrow.Author.Tests.{eq-eqb, ne_eqb}
 use Rattle.warnings.specs.Warnings.{unresponsive_driver}
 use Rattle.sample.specs.declared.Sample.{Sample}
 use Rattle.message.specs.declared.Message.{Message}
@@ -15,16 +13,13 @@ use Rattle.history.specs.declared.View.{View}
 use Rattle.history.specs.Rules.{Settings, unresponsive, driver_triggers, triggers, cancel_due, end_due}
 use Rattle.history.specs.History.{Past, Fact, Tick, present, size, run, stationary, mitigation_active, driver_unresponsive, view_of}
 use Rattle.history.specs.TickWords.{DriverTriggers, DriverEnds}
+use Rattle.history.proofs.RunsGoOn.{begun_now}
 use Rattle.history.proofs.TickNumbers.{at_newest}
 
 -- a run has ticks exactly if its fact is true at the newest tick
 pub run_begun : (p : Fact) (t : Tick) (past : Past) → ltb 0 (run p (t ∷ past)) ≡ p t past
 unfolding run
-run_begun p t past = go (p t past)
-  where
-    go : (c : Bool) → ltb 0 (cond c (run p past + 1) 0) ≡ c
-    go true = lt-ltb 0 (run p past + 1) (omega arith)
-    go false = refl
+run_begun p t past = begun_now (p t past) (run p past)
 
 -- what the rules look at is the fact at the tick
 pub driver_triggers_now : (x : Sample) (past : Past) → driver_triggers (view_of x past) ≡ driver_unresponsive (present x) past

@@ -14,6 +14,7 @@ pub mod MessagesAdmitted
 pub mod StatesInRange
 pub mod TickNumbers
 pub mod TicksOfRun
+pub mod DecidedNow
 pub mod StandsByTicks
 pub mod LookBacksInWords
 pub mod CyclesInWords

@@ -5,9 +5,16 @@ use mathlib.Core.Bool.{Bool, true, false}
 use mathlib.Core.List.{List, [], ◌∷◌}
 use Prim.Native.Nat.{ℕ, zero, suc, ◌+◌, ◌≤◌, ◌<◌}
 use native.Mathlib.Omega.{arith}
+use lib.Dec.{ltb}
 use lib.ListN.{length, get_or}
+use borrow.Author.Tests.{lt-ltb}
 use Rattle.history.specs.Runs.{go_on, runs_after}
 use Rattle.history.specs.Ranges.{Within}
+
+-- a run has begun exactly if its fact is true at the newest tick
+pub begun_now : (b : Bool) (n : ℕ) → ltb 0 (go_on b n) ≡ b
+begun_now true n = lt-ltb 0 (n + 1) (omega arith)
+begun_now false n = refl
 
 pub more : (b : Bool) (n m : ℕ) → n ≤ m → go_on b n ≤ m + 1
 more true n m h = omega arith

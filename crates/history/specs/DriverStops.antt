@@ -46,7 +46,7 @@ pub record DriverStops : Type 0 where
   -- "then New of the highest": both at 0; while 3 stands 4 does not begin, nor at the tick of its Cancel
   pub crash_first : lines_up_to 151 (driving_with_bit (at_alone 0 (with_happening high_severity) ∷ []))
       ≡ line 0 N 3 3 1 ∷ line 150 C 3 3 1 ∷ line 151 N 4 1 2 ∷ []
-  -- "Warning 3 counts bits 0 to 3 alone.": the bit alone, still and lit off; with eCall at 10, quality 1
+  -- "Warning 3 counts bits 0 to 3 alone.": the bit alone, still, with hazard lights off; with eCall at 10, quality 1
   pub bit_alone : lines_up_to 30 (with_happening mitigation ∷ switch_off hazard ∷ []) ≡ []
   pub bit_with_ecall : lines_up_to 10 (with_happening mitigation ∷ at_alone 10 (with_happening ecall) ∷ []) ≡ line 10 N 3 1 1 ∷ []
   -- "Updates come every 5 ticks and at no other cause": ignition off from 2
