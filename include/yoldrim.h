@@ -11,6 +11,9 @@
  * sample says that a risk mitigation function is active, refusal 5 covers bits 5 to 7, and warning 4 is that for an unresponsive driver,
  * with cause 99, sub cause 8, quality 1 and validity 2.
  *
+ * After CR 2 the vehicle stays still, or not still, through up to 5 samples in a row without a reading (speed 16,383). From the sixth on
+ * it is not still until a reading comes, nor is it before the first reading. A message may come with a sample that has no reading.
+ *
  * Warning 4 has News and Updates alone, an Update after every 5 ticks, and no Cancel: it ends without a message once the bit clears or
  * the vehicle is still, or by a New of warning 3. A caller that shows what stands looks after each call at bytes 13 and 17 of the engine
  * (below), whether a warning stands and which; or it sees, 5 ticks after the last New or Update of warning 4, that no message has come.
@@ -69,14 +72,15 @@ extern "C" {
  *   120-123  ticks without eCall up to now
  *   124-127  ticks without a low severity crash or pedestrian collision up to now
  *   128-131  ticks without a high severity crash up to now
+ *   132-135  ticks without a reading of the speed up to now
  * A fresh image has 0 in every byte but the first. Memory that is no image is refused with 21: of another length or layout, with a
  * number outside the ranges of refusal 21, or with a byte that no engine's image has in its place. */
-#define YOLDRIM_ENGINE_BYTES 132
+#define YOLDRIM_ENGINE_BYTES 136
 
 /* The layout's number, the first byte of every image. An image may outlive the software that saved it: every change of the engine's
  * state raises this number, and an image of another layout is refused with 21 and left as it was, never misread. A unit whose kept
  * image is refused begins fresh. */
-#define YOLDRIM_ENGINE_LAYOUT 1
+#define YOLDRIM_ENGINE_LAYOUT 2
 
 /* Makes the image of an engine that has taken no sample. Answers 0; -21 for another length than YOLDRIM_ENGINE_BYTES, also a longer
  * one. */

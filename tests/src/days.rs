@@ -10,6 +10,9 @@ use crate::scenes::stopped;
 /// Spans at and around which something in document 01 turns.
 const TURNS: [i64; 12] = [1, 2, 30, 31, 50, 100, 150, 200, 250, 300, 450, 600];
 
+/// Losses of readings at whose last tick a Cancel is due, and a tick less.
+const LONG_LOSSES: [i64; 4] = [56, 55, 156, 155];
+
 /// Jumps whose square is at, or just past, 5,000 dm, or too big for 32 bits.
 const JUMPS: [(i32, i32); 12] = [
     (5_000, 0),
@@ -29,6 +32,9 @@ const JUMPS: [(i32, i32); 12] = [
 /// Coordinates to begin a day at or to be set to: the start and the map's ends.
 const PLACES: [i32; 4] = [0, 0, FARTHEST, -FARTHEST];
 
+/// In `Planned`, beside the happenings' bits: no reading comes.
+const LOST: u8 = 1 << 7;
+
 /// The switches of a vehicle under way.
 const USUAL: u8 = switch::IGNITION | switch::BELT;
 
@@ -45,6 +51,8 @@ pub struct Style {
     crash: u64,
     /// The risk mitigation function becomes active in a piece of the day.
     mitigation: u64,
+    /// Readings are lost in a piece of the day, whatever the vehicle does in it.
+    lossy: u64,
     /// A stand is without hazard lights.
     unlit: u64,
     /// Whether drives last as long as in traffic.
@@ -58,6 +66,7 @@ pub const TRAINING: Style = Style {
     changed: 4,
     crash: 4,
     mitigation: 4,
+    lossy: 4,
     unlit: 6,
     traffic: false,
 };
@@ -74,6 +83,7 @@ pub const TRAFFIC: Style = Style {
     changed: 12,
     crash: 40,
     mitigation: 40,
+    lossy: 40,
     unlit: 2,
     traffic: true,
 };
@@ -102,8 +112,8 @@ pub struct Day {
     planned: Vec<Planned>,
 }
 
-/// Happenings to come, or that are there: from which to which tick, counted
-/// from now, and which.
+/// Happenings or lost readings to come, or that are there: from which to which
+/// tick, counted from now, and which.
 struct Planned {
     first: i64,
     last: i64,
@@ -136,7 +146,11 @@ impl Day {
 
     /// The next sample.
     pub fn next_sample(&mut self) -> Sample {
-        let given = Sample { happenings: self.happenings_now(), ..self.now };
+        let planned = self.planned_now();
+        let mut given = Sample { happenings: planned & happening::ALL, ..self.now };
+        if planned & LOST != 0 {
+            given.speed = NO_READING;
+        }
         self.left -= 1;
         if self.left <= 0 {
             self.begin_piece();
@@ -181,6 +195,9 @@ impl Day {
         }
         if self.random.one_in(self.style.mitigation) {
             self.plan_mitigation();
+        }
+        if self.random.one_in(self.style.lossy) {
+            self.plan_losses();
         }
         if self.random.one_in(12) {
             self.jump();
@@ -342,6 +359,26 @@ impl Day {
         }
     }
 
+    /// Readings are lost from now or later in this piece of the day on: once and for
+    /// long, or again and again, at most 5, 6 or 8 in a row and often just as many.
+    fn plan_losses(&mut self) {
+        let mut first = self.random.pick(&[0, self.left / 2, self.left - 1]);
+        if self.random.one_in(4) {
+            let length = self.random.pick(&LONG_LOSSES);
+            self.planned.push(Planned { first, last: first + length - 1, what: LOST });
+            return;
+        }
+        let longest = self.random.pick(&[5, 5, 6, 8]);
+        let most_between = self.random.pick(&[1, 3, 20, 100]);
+        for _ in 0..self.random.pick(&[1, 2, 10, 40]) {
+            let often = self.random.one_in(3);
+            let length = if often { longest } else { self.random.between(1, longest) };
+            let last = first + length - 1;
+            self.planned.push(Planned { first, last, what: LOST });
+            first = last + 1 + self.random.between(1, most_between);
+        }
+    }
+
     fn happening(&mut self) -> u8 {
         match self.random.place(8) {
             0 => self.random.between(1, i64::from(happening::ALL)) as u8,
@@ -350,7 +387,8 @@ impl Day {
         }
     }
 
-    fn happenings_now(&mut self) -> u8 {
+    /// What is there now, of what was planned.
+    fn planned_now(&mut self) -> u8 {
         let mut now = 0;
         for planned in &mut self.planned {
             if planned.first <= 0 {

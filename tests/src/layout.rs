@@ -194,6 +194,7 @@ fn runs(history: &History) -> Vec<(&'static str, u32)> {
         ("ticks without eCall", without(ECALL)),
         ("ticks without a low severity", without(LOW_SEVERITY | PEDESTRIAN)),
         ("ticks without a high severity", without(HIGH_SEVERITY)),
+        ("ticks without a reading", run(&|s| s.reading().is_none())),
     ]
 }
 
@@ -230,11 +231,12 @@ fn fresh_image(comparison: &Comparison, table: &Table) {
     }
 }
 
-/// A stop in park, the first sample without a reading: still from tick 1, so
-/// warning 1 has its New at tick 201 and stands. The numbers are by hand.
+/// A stop in park, the first sample and the last 4 without a reading: still from
+/// tick 1, so warning 1 has its New at tick 201 and stands. The numbers are by
+/// hand.
 fn stop_by_hand(comparison: &mut Comparison, table: &Table, seen: &mut Seen) {
     for tick in 0..=260 {
-        let speed = if tick == 0 { NO_READING } else { 0 };
+        let speed = if (1..257).contains(&tick) { 0 } else { NO_READING };
         let sample = Sample { speed, gear: gear::PARK, ..stopped(tick) };
         comparison.call(Call::Sample, &sample.to_bytes(), SAMPLE_OUTPUT);
         if tick == 0 {
@@ -250,6 +252,7 @@ fn stop_by_hand(comparison: &mut Comparison, table: &Table, seen: &mut Seen) {
         ("ticks stationary", 260),
         ("ticks in park", 261),
         ("ticks with ignition off", 0),
+        ("ticks without a reading", 4),
     ];
     for (words, n) in numbers {
         if let Err(what) = table.holds(image, words, &number(n)) {

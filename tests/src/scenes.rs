@@ -3,6 +3,7 @@
 //! gives for them.
 
 use crate::reference::{gear, happening, switch, Sample, NO_READING};
+use std::ops::Range;
 
 pub struct Scene {
     pub name: &'static str,
@@ -49,6 +50,13 @@ fn set(sample: &mut Sample, switches: u8, on: bool) {
     }
 }
 
+/// The sample has no reading if its tick is one of these.
+pub fn lose(sample: &mut Sample, ticks: Range<u32>) {
+    if ticks.contains(&sample.tick) {
+        sample.speed = NO_READING;
+    }
+}
+
 pub fn all() -> Vec<Scene> {
     let mut scenes = bench_stops();
     scenes.extend(filter_facts());
@@ -57,7 +65,12 @@ pub fn all() -> Vec<Scene> {
     scenes.extend(crashes());
     scenes.extend(turns());
     scenes.extend(long_stands());
+    scenes.extend(losses_in_countdowns());
+    scenes.extend(losses_behind_readings());
+    scenes.extend(losses_and_messages());
+    scenes.extend(losses_and_crashes());
     scenes.extend(unresponsive_driver());
+    scenes.extend(losses_and_unresponsive_driver());
     scenes.extend(overruled_by_unresponsive_driver());
     scenes.extend(unresponsive_driver_and_crashes());
     scenes
@@ -150,10 +163,22 @@ fn filter_facts() -> Vec<Scene> {
         scene("9 from the start: never still", 5_000, |s| pressed(s, 9, 9), &[]),
         scene("no reading, then 8", 20, |s| pressed(s, NO_READING, 8), &["1 N 3 1 1"]),
         scene(
-            "no reading is not still",
+            "no reading yet is not still",
             20,
-            |s| pressed(s, 0, if s.tick < 5 { NO_READING } else { 0 }),
-            &["0 N 3 1 1"],
+            |s| {
+                pressed(s, 0, 0);
+                lose(s, 0..3);
+            },
+            &["3 N 3 1 1"],
+        ),
+        scene(
+            "100, five readings lost, then 0: still first at 14",
+            30,
+            |s| {
+                pressed(s, 100, 0);
+                lose(s, 1..6);
+            },
+            &["14 N 3 1 1"],
         ),
         scene(
             "the printing program's one block",
@@ -475,14 +500,14 @@ fn turns() -> Vec<Scene> {
         scene(
             "still at the last tick before its Cancel",
             420,
-            |s| s.speed = if (310..360).contains(&s.tick) { NO_READING } else { 0 },
+            |s| lose(s, 310..365),
             &["300 N 1 1 1"],
         ),
         scene(
             "not still for the whole of 51 ticks",
             420,
-            |s| s.speed = if (310..361).contains(&s.tick) { NO_READING } else { 0 },
-            &["300 N 1 1 1", "360 C 1 1 1"],
+            |s| lose(s, 310..366),
+            &["300 N 1 1 1", "365 C 1 1 1"],
         ),
     ]
 }
@@ -512,12 +537,19 @@ fn long_stands() -> Vec<Scene> {
             },
             &["9010 N 2 3 1", "9160 U 2 3 1", "9170 C 2 3 1"],
         ),
-        ecall_after(599, &["599 N 3 1 1"]),
-        ecall_after(600, &["600 N 3 1 1"]),
-        ecall_after(1_199, &["1199 N 3 1 1"]),
-        ecall_after(1_200, &["1200 N 3 1 1"]),
-        ecall_after(8_999, &["8999 N 3 1 1"]),
-        ecall_after(9_000, &["9000 N 3 1 1"]),
+        ecall_after(599, 0..0, &["599 N 3 1 1"]),
+        ecall_after(600, 0..0, &["600 N 3 1 1"]),
+        ecall_after(1_199, 0..0, &["1199 N 3 1 1"]),
+        ecall_after(1_200, 0..0, &["1200 N 3 1 1"]),
+        ecall_after(8_999, 0..0, &["8999 N 3 1 1"]),
+        ecall_after(9_000, 0..0, &["9000 N 3 1 1"]),
+        ecall_after(599, 595..600, &["599 N 3 1 1"]),
+        ecall_after(600, 598..601, &["600 N 3 1 1"]),
+        ecall_after(1_199, 1_195..1_200, &["1199 N 3 1 1"]),
+        ecall_after(1_200, 300..305, &["1200 N 3 1 1"]),
+        ecall_after(8_999, 8_990..8_995, &["8999 N 3 1 1"]),
+        ecall_after(9_000, 8_996..9_001, &["9000 N 3 1 1"]),
+        ecall_after(9_305, 300..306, &["9305 N 3 1 1"]),
         scene(
             "warning 3 after a long stand",
             9_700,
@@ -532,17 +564,143 @@ fn long_stands() -> Vec<Scene> {
     ]
 }
 
-/// The eCall button where stationarySince turns, or just before.
-fn ecall_after(ticks: u32, lines: &'static [&'static str]) -> Scene {
+/// The eCall button where stationarySince turns, or just before, in a stand
+/// without readings at the ticks `lost`.
+fn ecall_after(ticks: u32, lost: Range<u32>, lines: &'static [&'static str]) -> Scene {
     let change = |s: &mut Sample| {
         s.switches = switch::IGNITION | switch::BELT;
         s.happenings = if s.tick == ticks { happening::ECALL } else { 0 };
+        lose(s, lost.clone());
     };
     scene("eCall where stationarySince turns", ticks, change, lines)
 }
 
-/// The risk mitigation function is active and no reading comes, so the vehicle
-/// is not still.
+/// A stop, otherwise changed so, without readings at the ticks `lost`.
+fn losing<const N: usize>(
+    name: &'static str,
+    last: u32,
+    change: impl Fn(&mut Sample),
+    lost: [Range<u32>; N],
+    lines: &'static [&'static str],
+) -> Scene {
+    let change = |s: &mut Sample| {
+        change(s);
+        lost.iter().for_each(|ticks| lose(s, ticks.clone()));
+    };
+    scene(name, last, change, lines)
+}
+
+/// As every stop: New of warning 1 at 300.
+fn unchanged(_: &mut Sample) {}
+
+/// New of warning 2 at 200, quality 2.
+fn broken_down(sample: &mut Sample) {
+    set(sample, switch::MESSAGE, true);
+    sample.gear = gear::PARK;
+}
+
+/// New of warning 3 at 14.
+fn ecall_at_14(sample: &mut Sample) {
+    sample.happenings = if sample.tick == 14 { happening::ECALL } else { 0 };
+    set(sample, switch::HAZARD, false);
+}
+
+/// The risk mitigation function is active.
+fn active(sample: &mut Sample) {
+    sample.happenings = happening::MITIGATION;
+}
+
+/// Readings lost (CR 2) in countdowns: five in a row leave the vehicle still, with
+/// the sixth it is not.
+fn losses_in_countdowns() -> Vec<Scene> {
+    let i = &["300 N 1 1 1", "450 U 1 1 1", "600 U 1 1 1"];
+    vec![
+        losing("five readings lost in a countdown: stop (i)", 600, unchanged, [200..205], i),
+        losing("five, a reading, five lost: stop (i)", 600, unchanged, [200..205, 206..211], i),
+        losing("six lost: the countdown from 206", 655, unchanged, [200..206], &["506 N 1 1 1"]),
+        losing("five, a reading, six lost", 661, unchanged, [200..205, 206..212], &["512 N 1 1 1"]),
+        losing("the sixth where the New was due", 750, unchanged, [295..301], &["601 N 1 1 1"]),
+        losing("no reading at the first five ticks", 454, unchanged, [0..5], &["305 N 1 1 1"]),
+        losing("2: five lost before its New", 349, broken_down, [195..200], &["200 N 2 2 1"]),
+        losing("2: six lost before its New", 549, broken_down, [194..200], &["400 N 2 2 1"]),
+        losing(
+            "the hazard lights go on at a tick without a reading",
+            551,
+            |s| set(s, switch::HAZARD, s.tick >= 102),
+            [100..105],
+            &["402 N 1 1 1"],
+        ),
+        losing(
+            "the breakdown message comes on at a tick without a reading",
+            551,
+            |s| set(s, switch::MESSAGE, s.tick >= 102),
+            [100..105],
+            &["402 N 2 1 1"],
+        ),
+    ]
+}
+
+/// Five readings lost (CR 2) behind a reading above 8: what counts is F.
+fn losses_behind_readings() -> Vec<Scene> {
+    let reading_at_110 =
+        |speed| move |s: &mut Sample| s.speed = if s.tick == 110 { speed } else { 0 };
+    vec![
+        losing("F 10, then five lost", 565, reading_at_110(40), [111..116], &["416 N 1 1 1"]),
+        losing("F 8, then five lost", 449, reading_at_110(32), [111..116], &["300 N 1 1 1"]),
+    ]
+}
+
+/// Readings lost (CR 2) at and around a New, an Update and a Cancel.
+fn losses_and_messages() -> Vec<Scene> {
+    let given = &["300 N 1 1 1", "450 U 1 1 1"];
+    let at_365 = &["300 N 1 1 1", "365 C 1 1 1"];
+    let at_371 = &["300 N 1 1 1", "371 C 1 1 1"];
+    vec![
+        losing("New and Update in a loss", 599, unchanged, [296..301, 450..455], given),
+        losing("Update while the vehicle is not still", 599, unchanged, [440..490], given),
+        losing("51 readings lost: 46 ticks not still", 599, unchanged, [310..361], given),
+        losing("lost for good from 310", 600, unchanged, [310..601], at_365),
+        losing("five lost, and for good from 316", 600, unchanged, [310..315, 316..601], at_371),
+        losing("2: New without a reading", 349, broken_down, [198..203], &["200 N 2 2 1"]),
+        losing(
+            "2: Update without a reading",
+            499,
+            broken_down,
+            [346..351],
+            &["200 N 2 2 1", "350 U 2 2 1"],
+        ),
+        losing("2: for good", 500, broken_down, [210..501], &["200 N 2 2 1", "265 C 2 2 1"]),
+        losing("2: still before its Cancel", 320, broken_down, [210..265], &["200 N 2 2 1"]),
+        losing(
+            "hazard lights off at a tick without a reading alone",
+            703,
+            |s| set(s, switch::HAZARD, s.tick != 402),
+            [400..405],
+            &["300 N 1 1 1", "402 C 1 1 1", "703 N 1 1 2"],
+        ),
+    ]
+}
+
+/// Readings lost (CR 2) and warning 3: its "if still", and its Cancel.
+fn losses_and_crashes() -> Vec<Scene> {
+    let update = &["14 N 3 1 1", "614 U 3 1 1"];
+    let cancel = &["14 N 3 1 1", "465 C 3 1 1"];
+    vec![
+        losing("eCall at the fifth missing reading", 613, ecall_at_14, [10..15], &["14 N 3 1 1"]),
+        losing(
+            "eCall at the sixth: New with a reading",
+            613,
+            ecall_at_14,
+            [9..16],
+            &["16 N 3 1 1"],
+        ),
+        losing("3 updated at a tick without a reading", 620, ecall_at_14, [612..617], update),
+        losing("3 is still before its Cancel", 600, ecall_at_14, [310..465], &["14 N 3 1 1"]),
+        losing("3 cancelled: not still at 151 ticks", 600, ecall_at_14, [310..466], cancel),
+    ]
+}
+
+/// The risk mitigation function is active and no reading comes.
 fn active_without_reading(sample: &mut Sample) {
     sample.speed = NO_READING;
     sample.happenings = happening::MITIGATION;
@@ -668,15 +826,6 @@ fn unresponsive_driver() -> Vec<Scene> {
             &["0 N 4 1 1", "5 U 4 1 1", "8 N 4 1 2", "13 U 4 1 2"],
         ),
         scene(
-            "a reading lost at 100 alone: 4, then a countdown from 102",
-            402,
-            |s| {
-                s.happenings = happening::MITIGATION;
-                s.speed = if s.tick == 100 { NO_READING } else { 0 };
-            },
-            &["100 N 4 1 1", "402 N 1 1 2"],
-        ),
-        scene(
             "the function is active in a stop: stop (i)",
             600,
             |s| s.happenings = happening::MITIGATION,
@@ -685,11 +834,40 @@ fn unresponsive_driver() -> Vec<Scene> {
     ]
 }
 
+/// Readings lost (CR 2) while the risk mitigation function is active.
+fn losses_and_unresponsive_driver() -> Vec<Scene> {
+    let at_105 = &["105 N 4 1 1", "407 N 1 1 2"];
+    let to_112 = &["105 N 4 1 1", "110 U 4 1 1", "413 N 1 1 2"];
+    vec![
+        losing("five readings lost from 100: no 4", 407, active, [100..105], &["300 N 1 1 1"]),
+        losing("six: 4 at 105, a countdown from 107", 407, active, [100..106], at_105),
+        losing("twelve: 4 up to the first reading", 413, active, [100..112], to_112),
+        losing("five after the New of 1: it stays", 449, active, [310..315], &["300 N 1 1 1"]),
+        losing(
+            "six lost, then driving: 4 stays",
+            119,
+            |s| {
+                active(s);
+                s.speed = if s.tick >= 106 { 1_000 } else { 0 };
+            },
+            [100..106],
+            &["105 N 4 1 1", "110 U 4 1 1", "115 U 4 1 1"],
+        ),
+        losing(
+            "five lost behind 100: 4 stays until still",
+            464,
+            active_and_stopping,
+            [1..6],
+            &["0 N 4 1 1", "5 U 4 1 1", "10 U 4 1 1", "315 N 1 1 2"],
+        ),
+    ]
+}
+
 /// Warning 4 over 1 and 2, which have their Cancel, also where that or an
 /// Update is due.
 fn overruled_by_unresponsive_driver() -> Vec<Scene> {
     use switch::*;
-    /// Active from this tick on, and no reading.
+    /// Active from this tick on, and no reading: not still from 5 ticks later on.
     fn active_from(sample: &mut Sample, tick: u32) {
         if sample.tick >= tick {
             active_without_reading(sample);
@@ -697,13 +875,13 @@ fn overruled_by_unresponsive_driver() -> Vec<Scene> {
     }
     vec![
         scene(
-            "1 overruled by 4 when its reading is lost",
+            "1 overruled by 4 at the sixth missing reading",
             322,
             |s| {
                 s.happenings = happening::MITIGATION;
-                s.speed = if s.tick >= 310 { NO_READING } else { 0 };
+                lose(s, 310..323);
             },
-            &["300 N 1 1 1", "310 C 1 1 1", "310 N 4 1 2", "315 U 4 1 2", "320 U 4 1 2"],
+            &["300 N 1 1 1", "315 C 1 1 1", "315 N 4 1 2", "320 U 4 1 2"],
         ),
         scene(
             "2 overruled by 4 ten ticks after it drives off",
@@ -718,7 +896,7 @@ fn overruled_by_unresponsive_driver() -> Vec<Scene> {
         scene(
             "1 overruled by 4 when its Update is due",
             454,
-            |s| active_from(s, 450),
+            |s| active_from(s, 445),
             &["300 N 1 1 1", "450 C 1 1 1", "450 N 4 1 2"],
         ),
         scene(
@@ -726,7 +904,7 @@ fn overruled_by_unresponsive_driver() -> Vec<Scene> {
             454,
             |s| {
                 set(s, MESSAGE, true);
-                active_from(s, 450);
+                active_from(s, 445);
             },
             &["300 N 2 1 1", "450 C 2 1 1", "450 N 4 1 2"],
         ),
@@ -745,7 +923,7 @@ fn overruled_by_unresponsive_driver() -> Vec<Scene> {
             |s| {
                 set(s, MESSAGE, true);
                 set(s, HAZARD, s.tick < 400);
-                active_from(s, 400);
+                active_from(s, 395);
             },
             &["300 N 2 1 1", "400 C 2 1 1", "400 N 4 1 2"],
         ),
@@ -815,7 +993,7 @@ fn unresponsive_driver_and_crashes() -> Vec<Scene> {
             "1 overruled by 3 while 4 triggers too",
             320,
             |s| {
-                if s.tick >= 310 {
+                if s.tick >= 305 {
                     active_without_reading(s);
                 }
                 s.happenings |= if s.tick == 310 { HIGH_SEVERITY } else { 0 };

@@ -54,6 +54,26 @@ const KINDS: [&str; 3] = ["New", "Update", "Cancel"];
 const CONDITIONS: [&str; 8] = ["a", "b", "c", "d", "e", "f", "g", "h"];
 const HAPPENINGS: [&str; 4] = ["eCall", "low severity", "pedestrian", "high severity"];
 
+/// Losses, one of each length that has a row.
+const LOSSES: [usize; 10] = [1, 2, 3, 4, 5, 6, 7, 8, 9, 51];
+
+/// A loss's length as its row has it.
+fn length(loss: usize) -> String {
+    match loss {
+        0..=8 => loss.to_string(),
+        9..=50 => "9 to 50".to_string(),
+        _ => "51 or more".to_string(),
+    }
+}
+
+/// What a loss does to the countdown of warning 1 or 2.
+const IN_COUNTDOWNS: [&str; 4] = [
+    "readings lost in its countdown",
+    "five readings lost in a row in its countdown",
+    "its cycle's first tick without a reading",
+    "its cycle's first tick the first reading after a loss",
+];
+
 /// The warnings that end with a Cancel.
 const WITH_CANCEL: [u8; 3] = [STOPPED, BROKEN_DOWN, POST_CRASH];
 
@@ -102,6 +122,7 @@ impl Tally {
         tally.declare_triggers();
         tally.declare_rules();
         tally.declare_unresponsive_driver();
+        tally.declare_losses();
         tally.declare_order();
         tally.declare_fields();
         tally.declare_calls();
@@ -170,7 +191,6 @@ impl Tally {
         }
         self.declare("still with a reading above 8");
         self.declare("not still with a reading of at most 8");
-        self.declare("not still for a lost reading after a still tick");
         self.declare("no reading yet");
         for (name, _) in edges_of_still() {
             self.declare(format!("F is {name}"));
@@ -211,8 +231,10 @@ impl Tally {
         for what in [
             "at tick 0",
             "no reading yet",
-            "reading lost",
             "F above 8",
+            "reading lost, not still at the last one",
+            "sixth missing reading",
+            "later missing reading",
             "still at the tick before with the bit set",
             "bit clear for one tick while not still",
             "still for one tick with the bit set",
@@ -240,6 +262,44 @@ impl Tally {
             self.declare(format!("no effect on 4: {what}"));
         }
         self.declare("rule 3: Update of 4, period");
+    }
+
+    /// Losses of readings (CR 2), and what falls in them.
+    fn declare_losses(&mut self) {
+        for before in ["still", "not still", "no reading yet"] {
+            for loss in LOSSES {
+                self.declare(format!("loss of {} after {before}", length(loss)));
+            }
+        }
+        for loss in ["that keeps still", "that ends still", "without still"] {
+            for after in ["still", "not still"] {
+                self.declare(format!("loss {loss}, then {after}"));
+            }
+        }
+        for warning in [STOPPED, BROKEN_DOWN] {
+            for what in IN_COUNTDOWNS {
+                self.declare(format!("trigger of {warning}: {what}"));
+            }
+        }
+        self.declare("trigger of 3: still without a reading");
+        self.declare("trigger of 3: at the first reading after a loss");
+        self.declare("no trigger of 4: bit 4 set, still without a reading");
+        self.declare("rule 2: end of 4, at the first reading after a loss");
+        for warning in WITH_CANCEL {
+            self.declare(format!("rule 2: Cancel of {warning}, not still by a loss"));
+            self.declare(format!("no Cancel of {warning}: still again where a loss has it due"));
+            self.declare(format!("Cancel of {warning} without a reading"));
+        }
+        for warning in BY_RANK {
+            self.declare(format!("New of {warning} without a reading"));
+            self.declare(format!("Update of {warning} without a reading"));
+        }
+        for since in 0..=3 {
+            self.declare(format!("stationarySince {since}, readings lost in its still run"));
+        }
+        for ticks in SINCE_TURNS {
+            self.declare(format!("New or Update after {ticks} ticks of still, readings lost"));
+        }
     }
 
     /// "One Cancel stands between neighbouring New messages where the earlier
@@ -369,14 +429,13 @@ impl Tally {
         }
         match sample.reading() {
             None => {
-                let lost = i > 0 && history.still(i - 1);
-                self.count_if(lost, "not still for a lost reading after a still tick");
                 let none = history.samples()[..=i].iter().all(|s| s.reading().is_none());
                 self.count_if(none, "no reading yet");
             }
             Some(x) => {
                 self.count_if(still && x > 8, "still with a reading above 8");
                 self.count_if(!still && x <= 8, "not still with a reading of at most 8");
+                self.loss_before(history, i);
             }
         }
         for (name, edge) in edges_of_still() {
@@ -392,6 +451,24 @@ impl Tally {
         }
     }
 
+    /// Counts the loss that the reading at tick i ends, if one does.
+    fn loss_before(&mut self, history: &History, i: usize) {
+        let loss = missing(&history.samples()[..i]);
+        if loss == 0 {
+            return;
+        }
+        let word = |still: bool| if still { "still" } else { "not still" };
+        let first = i - loss;
+        let before = if first == 0 { "no reading yet" } else { word(history.still(first - 1)) };
+        self.count(&format!("loss of {} after {before}", length(loss)));
+        let how = match (history.still(first), history.still(i - 1)) {
+            (true, true) => "that keeps still",
+            (true, false) => "that ends still",
+            _ => "without still",
+        };
+        self.count(&format!("loss {how}, then {}", word(history.still(i))));
+    }
+
     fn nothing_given(&mut self, history: &History, standing: u8, i: usize) {
         if standing == UNRESPONSIVE_DRIVER {
             self.nothing_given_of_4(history, i);
@@ -399,6 +476,9 @@ impl Tally {
             let exactly = history.square_moved(i) == SQUARE_TOO_FAR;
             let row = format!("no Cancel of {standing}: exactly 5,000 dm from the last");
             self.count_if(exactly, &row);
+            let again = history.still(i) && due_by_loss(history, standing, i);
+            let row = format!("no Cancel of {standing}: still again where a loss has it due");
+            self.count_if(again, &row);
         }
         if standing == POST_CRASH {
             let long = rules(standing).cancel_delay.is_some_and(|d| history.not_still_for(d, i));
@@ -411,6 +491,8 @@ impl Tally {
             self.forgotten_happenings(history, i);
             let active = history.mitigation_active(i);
             self.count_if(active, "no trigger of 3 or 4: bit 4 set, still");
+            let lost = active && history.samples()[i].reading().is_none();
+            self.count_if(lost, "no trigger of 4: bit 4 set, still without a reading");
         }
     }
 
@@ -421,6 +503,8 @@ impl Tally {
             self.count(&format!("rule 2: end of 4, {}", how_4_ends(&causes)));
             let due = history.update_causes(i).any();
             self.count_if(due, "rule 2: end of 4 while its Update is due");
+            let after_loss = causes.still && missing(&history.samples()[..i]) > MOST_MISSING;
+            self.count_if(after_loss, "rule 2: end of 4, at the first reading after a loss");
             return;
         }
         for (occurred, what) in [
@@ -484,11 +568,14 @@ impl Tally {
 
     fn mitigation_trigger(&mut self, history: &History, standing: u8, i: usize) {
         let row = |what: &str| format!("trigger of 4: {what}");
-        let reading = history.samples()[i].reading().is_some();
         self.count_if(i == 0, &row("at tick 0"));
-        self.count_if(history.filter(i).is_none(), &row("no reading yet"));
-        self.count_if(history.filter(i).is_some() && !reading, &row("reading lost"));
-        self.count_if(reading, &row("F above 8"));
+        self.count(&row(match missing(&history.samples()[..=i]) {
+            0 => "F above 8",
+            lost if lost > i => "no reading yet",
+            lost if !history.still(i - lost) => "reading lost, not still at the last one",
+            lost if lost == MOST_MISSING + 1 => "sixth missing reading",
+            _ => "later missing reading",
+        }));
         if i == 0 {
             return;
         }
@@ -518,6 +605,11 @@ impl Tally {
         let waited = history.happenings(i, i) == 0;
         self.count_if(!history.still(i), "trigger of 3: high severity, not still");
         self.count_if(waited, "trigger of 3: happening waited for still");
+        let by_still = counted & happening::HIGH_SEVERITY == 0;
+        let lost = by_still && history.samples()[i].reading().is_none();
+        self.count_if(lost, "trigger of 3: still without a reading");
+        let after_loss = by_still && missing(&history.samples()[..i]) > MOST_MISSING;
+        self.count_if(after_loss, "trigger of 3: at the first reading after a loss");
         let active = history.mitigation_active(i);
         self.count_if(active, "trigger of 3: bit 4 set too");
         let pressed = active && counted == happening::ECALL;
@@ -556,6 +648,23 @@ impl Tally {
         let delayed = history.stood_before(before) == UNRESPONSIVE_DRIVER;
         let delayed = delayed && history.need(new.warning, before);
         self.count_if(delayed, &row("a tick later, as 4 stood before"));
+        if counted_down {
+            self.losses_in_countdown(history, new.warning, cycle.first, i);
+        }
+    }
+
+    fn losses_in_countdown(&mut self, history: &History, warning: u8, first: usize, i: usize) {
+        let cycle = &history.samples()[first..=i];
+        let lost_first = missing(&cycle[..1]) == 1;
+        let occurred = [
+            cycle.iter().any(|s| s.reading().is_none()),
+            cycle.windows(MOST_MISSING).any(|row| missing(row) == MOST_MISSING),
+            lost_first,
+            !lost_first && missing(&history.samples()[..first]) > MOST_MISSING,
+        ];
+        for (occurred, what) in occurred.into_iter().zip(IN_COUNTDOWNS) {
+            self.count_if(occurred, &format!("trigger of {warning}: {what}"));
+        }
     }
 
     fn cancel_given(&mut self, history: &History, standing: u8, i: usize) {
@@ -564,6 +673,8 @@ impl Tally {
         self.count_if(causes.not_still, &row(", not still"));
         self.count_if(causes.hazard_off, &row(", hazard lights off"));
         self.count_if(causes.moved, &row(", moved"));
+        let lost = causes.not_still && due_by_loss(history, standing, i);
+        self.count_if(lost, &row(", not still by a loss"));
         self.count_if(history.update_causes(i).any(), &row(" while its Update is due"));
         let after_3 = standing == POST_CRASH && history.triggers(UNRESPONSIVE_DRIVER, i);
         self.count_if(after_3, "no trigger of 4: at the tick of the Cancel of 3");
@@ -579,6 +690,21 @@ impl Tally {
         self.count(&format!("rule 3: Update of {standing}, {cause}"));
     }
 
+    /// Counts the still run behind stationarySince of a New or Update.
+    fn since_of(&mut self, history: &History, message: &Message, i: usize) {
+        let Some(first) = history.still_run(i) else {
+            return;
+        };
+        let ticks = i - first;
+        let turns = SINCE_TURNS.contains(&ticks);
+        let lost = history.samples()[first..=i].iter().any(|s| s.reading().is_none());
+        let since = message.stationary_since;
+        self.count_if(lost, &format!("stationarySince {since}, readings lost in its still run"));
+        let row = format!("New or Update after {ticks} ticks of still");
+        self.count_if(turns, &row);
+        self.count_if(turns && lost, &format!("{row}, readings lost"));
+    }
+
     fn fields_of(&mut self, history: &History, message: &Message, i: usize) {
         let kind = KINDS[usize::from(message.kind) - 1];
         let warning = message.warning;
@@ -587,10 +713,10 @@ impl Tally {
         self.count(&format!("roadType {}", message.road_type));
         if message.kind != kind::CANCEL {
             self.count(&format!("message on road {}", history.samples()[i].road));
-            let run = history.still_run(i).map_or(0, |first| i - first);
-            let turns = SINCE_TURNS.contains(&run);
-            self.count_if(turns, &format!("New or Update after {run} ticks of still"));
+            self.since_of(history, message, i);
         }
+        let lost = history.samples()[i].reading().is_none();
+        self.count_if(lost, &format!("{kind} of {warning} without a reading"));
         self.count_if(message.heading == UNKNOWN_HEADING, "heading unknown in a message");
         if warning == BROKEN_DOWN {
             self.count(&format!("validity {} of warning 2", message.validity));
@@ -601,6 +727,22 @@ impl Tally {
             self.count_if(since == Some(1), "New and Cancel of one event at neighbouring ticks");
         }
     }
+}
+
+/// Missing readings in a row at the end of these samples.
+fn missing(samples: &[Sample]) -> usize {
+    samples.iter().rev().take_while(|s| s.reading().is_none()).count()
+}
+
+/// Whether a loss, with its sixth missing reading, made the vehicle not still so
+/// many ticks before tick i that the warning's Cancel is due there if it still is
+/// not.
+fn due_by_loss(history: &History, warning: u8, i: usize) -> bool {
+    rules(warning).cancel_delay.is_some_and(|delay| {
+        missing(&history.samples()[..i]) == delay + MOST_MISSING
+            && history.still(i - delay - 1)
+            && (i - delay..=i).all(|t| history.stood_before(t) == warning)
+    })
 }
 
 /// How often a condition became fulfilled at the ticks from `first` to i.

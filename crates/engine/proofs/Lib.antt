@@ -4,6 +4,7 @@ pub mod HighestFound
 pub mod StepFits
 pub mod Written
 pub mod RecordSamples
+pub mod SteadyRuns
 pub mod SteadyStep
 pub mod Running
 pub mod SteadyStretch

@@ -11,6 +11,7 @@ use Rattle.history.specs.InWords.{InWords}
 use Rattle.history.specs.BenchStops.{BenchStops}
 use Rattle.history.specs.FurtherStops.{FurtherStops}
 use Rattle.history.specs.DriverStops.{DriverStops}
+use Rattle.history.specs.LossStops.{LossStops}
 use Rattle.history.specs.RangeExamples.{RangeExamples}
 use Rattle.calls.specs.OrderOfChecks.{OrderOfChecks}
 use Rattle.calls.specs.Demand.{Demand}
@@ -38,6 +39,8 @@ pub record Document : Type 0 where
   pub further_stops : FurtherStops
   -- and for warning 4, after CR 1
   pub driver_stops : DriverStops
+  -- and for missing readings, after CR 2
+  pub loss_stops : LossStops
 
 -- the promise of `Engine::fresh`: the state that has taken no sample, demand 3 for every list of calls on it, and that the definitions
 -- by which all this is said give what the documents write out

@@ -3,13 +3,13 @@ ghost use Rattle.std.specs.Prelude.{◌≡◌, ◌≤◌};
 ghost use Rattle.history.specs.Rules.{rank, standing_rank, unresponsive, ends_without_message, lasting};
 ghost use Rattle.history.specs.History.{is_still, precondition};
 ghost use Rattle.history.specs.Runs.{facts_of, runs_after};
-ghost use Rattle.history.specs.State.{switched_off, conditions_at, cycle_after, goes_on, with_sample};
+ghost use Rattle.history.specs.State.{missing_with, switched_off, conditions_at, cycle_after, goes_on, with_sample};
 
 use crate::bounded::Bounded;
 use filter::Filter;
 use history::{
-    BELT_OFF, BONNET, BOOT, BRAKE, Conditions, Cycle, DOOR, IDLE, IGNITION_OFF, Log, NO_CYCLE,
-    PARK, RUNS, State,
+    BELT_OFF, BONNET, BOOT, BRAKE, Conditions, Cycle, DOOR, IDLE, IGNITION_OFF, Log, MISSING,
+    NO_CYCLE, PARK, RUNS, State,
 };
 use message::Message;
 use sample::Sample;
@@ -21,7 +21,7 @@ const GEAR_PARK: u8 = 1;
 const GEAR_IDLE: u8 = 2;
 
 // Which of the facts whose runs are kept are true of the sample, each at the place of its run. Here and where a cycle or a stretch goes
-// on, `still` stands beside the sample, for the rules' definitions take the two apart: still is of the filter and the speed.
+// on, `still` stands beside the sample, for the rules' definitions take the two apart: still is of the samples before it too.
 #[tactic(auto, unfolding(history::specs::Runs::facts, history::specs::Runs::facts_of))]
 fn facts_of(still: bool, x: Sample) -> [bool; RUNS]
     ensures { result ≡ facts_of still x }
@@ -42,6 +42,7 @@ fn facts_of(still: bool, x: Sample) -> [bool; RUNS]
         !now.ecall,
         !(now.low | now.pedestrian),
         !now.high,
+        !sample::has_reading(x.speed),
     ]
 }
 
@@ -114,12 +115,24 @@ pub(crate) fn standing_rank(standing: Option<Message>) -> u8
     standing.map_or(0, |m| rank(m.warning))
 }
 
-// Whether the vehicle is still, by the filter with the sample and the sample's speed.
-#[tactic(auto, unfolding(history::specs::History::is_still))]
-pub(crate) fn is_still(f: Filter, speed: u16) -> bool
-    ensures { result ≡ is_still f speed }
+// How many readings in a row are missing, with a sample of this speed.
+pub(crate) fn missing_with(speed: u16, missing: u32) -> u32
+    requires { missing ≤ 10000000 }
+    ensures { result ≡ missing_with speed missing }
 {
-    sample::has_reading(speed) & f.at_most_8()
+    if sample::has_reading(speed) {
+        0
+    } else {
+        missing + 1
+    }
+}
+
+// Whether the vehicle is still, by the filter with the sample and by how many readings in a row are missing with it.
+#[tactic(auto, unfolding(history::specs::History::is_still))]
+pub(crate) fn is_still(f: Filter, missing: u32) -> bool
+    ensures { result ≡ is_still f missing }
+{
+    (missing <= 5) & f.at_most_8()
 }
 
 // Whether the sample's switches are as the cycle of the warning needs them.
@@ -171,7 +184,7 @@ pub(crate) fn with_sample(s: Bounded, x: Sample) -> State
 {
     let before = s.state;
     let filter = before.filter.next(x.speed);
-    let still = is_still(filter, x.speed);
+    let still = is_still(filter, missing_with(x.speed, before.runs[MISSING]));
     let runs = runs_after(facts_of(still, x), s);
     let now = conditions_at(before.taken, runs);
     let standing = standing_rank(before.log.standing);

@@ -15,12 +15,12 @@ use Rattle.sample.specs.declared.Sample.{Sample}
 use Rattle.message.specs.declared.Message.{Message}
 use Rattle.history.specs.declared.View.{View}
 use Rattle.history.specs.Rules.{Settings, rank, standing_rank, driver_triggers, triggers, highest, report_of, cancel_of, ends_without_message, cancel_standing, cancel_due, end_due, update_due, silent, raise, keep, decide, lasting, noticed, given_by}
-use Rattle.history.specs.History.{Past, present, is_new, filter_after, stationary, messages, standing_after, driver_unresponsive, standing, events, view_of, given_at, tick_of, after}
+use Rattle.history.specs.History.{Past, present, is_new, messages, standing_after, driver_unresponsive, standing, events, view_of, given_at, tick_of, after}
 use Rattle.history.specs.Standing.{among, ends_at, BeginsAt, Stands}
 use Rattle.history.specs.TickWords.{ItsNew}
 use Rattle.history.proofs.GivenInOrder.{either, Agrees, Ordered, ordered_next, ordered_none}
 use Rattle.history.proofs.HighestInWords.{Overruling, highest_overrules, above_driver}
-use Rattle.history.proofs.DriverInWords.{driver_triggers_now}
+use Rattle.history.proofs.DriverInWords.{opened_driver, driver_triggers_now}
 use Rattle.history.proofs.Reached.{tick_with}
 
 -- ---- what is shown of every history
@@ -72,7 +72,7 @@ module _ (x : Sample) (past : Past) where
 
     -- rule 2
     ends : end_due v p ≡ true → After (noticed (cancel_standing v.tick (Some p)) ++ [])
-    unfolding end_due noticed cancel_standing cancel_of standing_after lasting ends_at among driver_unresponsive stationary filter_after
+    unfolding end_due noticed cancel_standing cancel_of standing_after lasting ends_at among opened_driver
     ends due = rw e (go (ends_without_message p.warning) refl due)
       where
         go : (b : Bool) → ends_without_message p.warning ≡ b → cond b (not (driver_triggers v)) (cancel_due v p) ≡ true
@@ -103,7 +103,7 @@ module _ (x : Sample) (past : Past) where
 
       -- no rule
       silent_stays : After []
-      unfolding standing_after lasting ends_at among messages driver_unresponsive stationary filter_after
+      unfolding standing_after lasting ends_at among messages opened_driver
       silent_stays = rw (e, on) (record {
         n = k.n;
         stands = (inr k.stands, goes_on);
@@ -118,7 +118,7 @@ module _ (x : Sample) (past : Past) where
       an_update = report_of update p.warning v.events v.kept v
 
       updates : After (an_update ∷ [])
-      unfolding standing_after ends_at among messages report_of view_of driver_unresponsive stationary filter_after
+      unfolding standing_after ends_at among messages report_of view_of opened_driver
       updates =
           let w = k.its_new in
           record {
@@ -166,7 +166,7 @@ module _ (x : Sample) (past : Past) where
     begins_active e = sym (driver_triggers_now x past) ∙ rw e at o.triggered
 
     new_alone : ((m : Message) → Stands m past → ends_at m (tick_with x (a_new ∷ [])) past ≡ false → ⊥) → After (a_new ∷ [])
-    unfolding standing_after ends_at among report_of driver_unresponsive stationary filter_after
+    unfolding standing_after ends_at among report_of opened_driver
     new_alone none =
         raised (a_new ∷ []) (messages past) refl refl (Memᴰ.head refl) (go (eqb warning unresponsive_driver) refl)
         (λ m b. elim (Memᴰ.cases_cons b.given) [ inl q ↦ q | inr j ↦ absurd (Memᴰ.not-nil j) ]) none
@@ -178,7 +178,7 @@ module _ (x : Sample) (past : Past) where
     with_cancel : (p : Message) → p.event ≡ events (messages past)
         → ((m : Message) → Stands m past → ends_at m (tick_with x (cancel_of v.tick p ∷ a_new ∷ [])) past ≡ false → ⊥)
         → After (cancel_of v.tick p ∷ a_new ∷ [])
-    unfolding standing_after cancel_of ends_at among report_of view_of driver_unresponsive stationary filter_after
+    unfolding standing_after cancel_of ends_at among report_of view_of opened_driver
     with_cancel p count none =
         raised (cancel_of v.tick p ∷ a_new ∷ []) (cancel_of v.tick p ∷ messages past) refl refl (Memᴰ.tail (Memᴰ.head refl)) (go (eqb warning unresponsive_driver) refl)
         (λ m b. elim (Memᴰ.cases_cons b.given) [
@@ -219,7 +219,7 @@ module _ (x : Sample) (past : Past) where
 
 found_after : (S : Settings) (past : Past) (xs : List Sample) → Ordered (messages past) (standing past) → Found past (standing past)
     → Found (after S past xs) (standing (after S past xs))
-unfolding after standing tick_of given_at driver_unresponsive stationary filter_after
+unfolding after standing tick_of given_at opened_driver
 found_after S past [] o f = f
 found_after S past (x ∷ xs) o f = found_after S (tick_of S x past ∷ past) xs (ordered_next S x past o) (decides x past S o.1 f)
 

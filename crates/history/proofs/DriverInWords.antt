@@ -11,7 +11,7 @@ use Rattle.sample.specs.declared.Sample.{Sample}
 use Rattle.message.specs.declared.Message.{Message}
 use Rattle.history.specs.declared.View.{View}
 use Rattle.history.specs.Rules.{Settings, unresponsive, driver_triggers, triggers, cancel_due, end_due}
-use Rattle.history.specs.History.{Past, Fact, Tick, present, size, run, stationary, mitigation_active, driver_unresponsive, view_of}
+use Rattle.history.specs.History.{Past, Fact, Tick, present, size, run, filter_after, stationary, mitigation_active, driver_unresponsive, view_of}
 use Rattle.history.specs.TickWords.{DriverTriggers, DriverEnds}
 use Rattle.history.proofs.RunsGoOn.{begun_now}
 use Rattle.history.proofs.TickNumbers.{at_newest}
@@ -20,6 +20,11 @@ use Rattle.history.proofs.TickNumbers.{at_newest}
 pub run_begun : (p : Fact) (t : Tick) (past : Past) → ltb 0 (run p (t ∷ past)) ≡ p t past
 unfolding run
 run_begun p t past = begun_now (p t past) (run p past)
+
+-- names what the trigger computes with: it is of the ticks' samples alone, whatever they gave
+unfoldable pub opened_driver : Unit {0}
+unfolding driver_unresponsive stationary filter_after run
+opened_driver = tt
 
 -- what the rules look at is the fact at the tick
 pub driver_triggers_now : (x : Sample) (past : Past) → driver_triggers (view_of x past) ≡ driver_unresponsive (present x) past

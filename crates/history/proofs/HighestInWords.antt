@@ -1,8 +1,9 @@
 -- The warning that rule 1 raises is the one of the highest rank that triggers and outranks the standing one.
 -- Assumes nothing.
 use mathlib.Core.Path.{◌≡◌, refl, sym, ap, ◌∙◌}
-use mathlib.Core.Logic.{inl, inr}
-use mathlib.Core.Bool.{Bool, true, false, not, ◌||◌, cond, false≢true}
+use mathlib.Core.Logic.{inl, inr, ◌↔◌}
+use mathlib.Core.Logic.Iff
+use mathlib.Core.Bool.{Bool, true, false, not, ◌||◌, cond, false≢true, and-eq-true_iff}
 use mathlib.Core.List.Memᴰ
 use mathlib.Core.List.{List, [], ◌∷◌, Memᴰ}
 use Prim.Native.Nat.{ℕ, zero, suc, ◌+◌, ◌≤◌, ◌<◌}
@@ -11,7 +12,6 @@ use borrow.Author.Tests.{ltb-true, eq-eqb, lt-ltb}
 use lib.Dec.{T, ltb, eqb, eqb→eq}
 use lib.Ieee.Fits.{and_r}
 use lib.ListN.{length, get_or}
-use Rattle.wire.proofs.Tests.{both_true}
 use Rattle.warnings.specs.Warnings.{post_crash, unresponsive_driver, warning_count, by_rank, row_of}
 use Rattle.warnings.proofs.Table.{each_passes, falling, falling_below, by_rank_falls, by_rank_has}
 use Rattle.history.specs.declared.View.{View}
@@ -37,12 +37,17 @@ pub record Overruling (S : Settings) (v : View) (warning : ℕ) : Type 0 where
   pub low : 1 ≤ warning
   pub high : warning ≤ warning_count
 
-pub overruling : (S : Settings) (v : View) (warning : ℕ) → overrules S v warning ≡ true → Overruling S v warning
+pub overrules_in_words : (S : Settings) (v : View) (warning : ℕ)
+    → (overrules S v warning ≡ true) ↔ ((triggers S v warning ≡ true) × (standing_rank v.standing < rank warning))
 unfolding overrules
+overrules_in_words S v warning =
+    Iff.trans (and-eq-true_iff _ _) (Iff.and (λ e. e, λ e. e) (λ e. ltb-true _ (rank warning) e, λ l. lt-ltb _ (rank warning) l))
+
+pub overruling : (S : Settings) (v : View) (warning : ℕ) → overrules S v warning ≡ true → Overruling S v warning
 overruling S v warning o =
-    let b = both_true (triggers S v warning) (ltb (standing_rank v.standing) (rank warning)) o in
+    let b = (overrules_in_words S v warning).0 o in
     let r = triggers_warning S v warning b.0 in
-    record { triggered = b.0; outranks = ltb-true _ _ b.1; low = r.0; high = r.1 }
+    record { triggered = b.0; outranks = b.1; low = r.0; high = r.1 }
 
 -- "It ranks between 2 and 3." (CR 1): what overrules 4 is 3
 pub above_driver : (S : Settings) (v : View) (warning : ℕ) → Overruling S v warning → standing_rank v.standing ≡ rank unresponsive_driver → warning ≡ post_crash

@@ -27,8 +27,10 @@ pub mod StopsComputed
 pub mod BenchStopsHold
 pub mod FurtherStopsHold
 pub mod DriverStopsHold
+pub mod LossStopsHold
 pub mod MessagesInWords
 pub mod FactsInWords
+pub mod StillInWords
 pub mod GivenInWords
 pub mod InWordsHold
 pub mod RangeExamplesHold

@@ -110,8 +110,8 @@ pub record FurtherStops : Type 0 where
   -- "low severity or pedestrian 2"
   pub low_severity_stop : lines_up_to 10 (at_alone 10 (with_happening low_severity) ∷ []) ≡ line 10 N 3 2 1 ∷ []
   pub pedestrian_collision : lines_up_to 10 (at_alone 10 (with_happening pedestrian) ∷ []) ≡ line 10 N 3 2 1 ∷ []
-  -- "Warnings 1 and 2 need still and hazard lights": no reading at 50 alone, or hazard off
-  pub need_still : lines_up_to 151 (park_and_brake (at_alone 50 (with_speed no_reading) ∷ [])) ≡ line 151 N 1 2 1 ∷ []
+  -- "Warnings 1 and 2 need still and hazard lights": no reading from 45 to 50, the sixth at 50, or hazard off at 50 alone
+  pub need_still : lines_up_to 151 (park_and_brake (from 45 (up_to 50 (with_speed no_reading)) ∷ [])) ≡ line 151 N 1 2 1 ∷ []
   pub need_hazard : lines_up_to 151 (park_and_brake (at_alone 50 (switch_off hazard) ∷ [])) ≡ line 151 N 1 2 1 ∷ []
   -- "1 also no breakdown message, 2 also the message": the message up to 50; and from 110, then high severity at 220
   pub need_no_message : lines_up_to 151 (park_and_brake (up_to 50 (switch_on breakdown) ∷ [])) ≡ line 151 N 1 2 1 ∷ []
@@ -184,8 +184,8 @@ pub record FurtherStops : Type 0 where
       ∷ whole (line 36 C 2 3 1) 35 0 30 (place 0 900 30 40)
       ∷ whole (line 36 N 3 3 2) 36 0 180 (place 2 2700 6000 80)
       ∷ []
-  -- "Update: 150 ticks (warning 3: 600, U)", "0 below 1 minute or not still, 1 below 2", and the quality of a happening long past; no reading and 5,001 dm at 601
-  pub whole_of_minute : messages_up_to 601 (ecall_at_start (from 601 (with_speed no_reading) ∷ from 601 (with_place 0 0 5001 0) ∷ []))
+  -- "Update: 150 ticks (warning 3: 600, U)", "0 below 1 minute or not still, 1 below 2", and the quality of a happening long past; speed 100 and 5,001 dm at 601
+  pub whole_of_minute : messages_up_to 601 (ecall_at_start (from 601 (with_speed 100) ∷ from 601 (with_place 0 0 5001 0) ∷ []))
       ≡ whole (line 0 N 3 1 1) 0 0 180 (place 255 0 0 0)
       ∷ whole (line 600 U 3 1 1) 600 1 180 (place 255 0 0 0)
       ∷ whole (line 601 C 3 1 1) 600 1 180 (place 255 0 0 0)

@@ -1,4 +1,4 @@
--- The history reading of document 01 and of CR 1: it sees all accepted samples and the messages given before, looks back over them, and keeps nothing.
+-- The history reading of document 01, and of CR 1 and CR 2: it sees all accepted samples and the messages given before, looks back over them, and keeps nothing.
 -- Assumes nothing.
 use Rattle.std.specs.Prelude.{ℕ, ◌+◌, ◌-◌, max, Bool, false, not, ◌&&◌, ◌||◌, cond, leb, ltb, eqb, Option, Some, None}
 use mathlib.Core.List.{List, [], ◌∷◌, ◌++◌, reverse_aux}
@@ -70,12 +70,17 @@ unfoldable pub filter_after : Past → Filter
 filter_after [] = Empty
 filter_after (t ∷ past) = next (filter_after past) t.sample.speed
 
--- "Still: the sample has a reading and F is at most 8", by the filter with the sample and the sample's speed
+-- "16,383 = no reading"
+abbrev pub speed_read : Fact
+speed_read t past = has_reading t.sample.speed
+
+-- "Up to 5 missing readings in a row leave still as it was at the last reading. The sixth makes it false. With no reading yet it is false."
+-- (CR 2): by the filter, which a missing reading keeps and which has no F before the first, and by how many readings in a row are missing
 unfoldable pub is_still : Filter → ℕ → Bool
-is_still f speed = has_reading speed && is_at_most_8 f
+is_still f missing = leb missing 5 && is_at_most_8 f
 
 unfoldable pub stationary : Fact
-stationary t past = is_still (filter_after (t ∷ past)) t.sample.speed
+stationary t past = is_still (filter_after (t ∷ past)) (run (never speed_read) (t ∷ past))
 
 -- ---- the conditions
 

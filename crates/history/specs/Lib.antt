@@ -9,4 +9,5 @@ pub mod InWords
 pub mod BenchStops
 pub mod FurtherStops
 pub mod DriverStops
+pub mod LossStops
 pub mod RangeExamples

@@ -2,7 +2,7 @@
 -- Assumes nothing.
 use Rattle.std.specs.Prelude.{ℕ, ◌+◌, Bool, cond, List, [], ◌∷◌, map, get_or}
 use Rattle.sample.specs.declared.Sample.{Sample}
-use Rattle.history.specs.History.{Past, Fact, present, never, run, stationary, parked, idling, braked, belted, ignited, door_open, boot_open, bonnet_open, ecall_pressed, low_severity, high_severity}
+use Rattle.history.specs.History.{Past, Fact, present, never, run, stationary, speed_read, parked, idling, braked, belted, ignited, door_open, boot_open, bonnet_open, ecall_pressed, low_severity, high_severity}
 
 -- the facts whose unbroken runs are kept. Still is an argument: for a history it is `stationary`, and for one new sample it is known
 -- already; no other fact here looks at the ticks before its own, so a step can tell each of them from the sample
@@ -21,11 +21,12 @@ facts still =
     ∷ never ecall_pressed
     ∷ never low_severity
     ∷ never high_severity
+    ∷ never speed_read
     ∷ []
 
 -- how many there are, and the run at each place
 abbrev pub run_count : ℕ
-run_count = 13
+run_count = 14
 
 abbrev pub still_run : List ℕ → ℕ
 still_run rs = get_or rs 0 0
@@ -65,6 +66,12 @@ no_low_run rs = get_or rs 11 0
 
 abbrev pub no_high_run : List ℕ → ℕ
 no_high_run rs = get_or rs 12 0
+
+abbrev pub missing_place : ℕ
+missing_place = 13
+
+abbrev pub missing_run : List ℕ → ℕ
+missing_run rs = get_or rs missing_place 0
 
 -- the runs that a history leaves
 unfoldable pub runs_of : Past → List ℕ

@@ -1,14 +1,15 @@
--- Document 01's sentences on ticks ("The history reading") and CR 1's, with its numbers of ticks a, i, j and k, to compare the look-backs of `History` with.
+-- Document 01's sentences on ticks ("The history reading"), CR 1's and CR 2's, with its numbers of ticks a, i, j and k, to compare the look-backs of `History` with.
 -- Assumes nothing.
 use Rattle.std.specs.Prelude.{◌≡◌, ◌⊎◌, Bool, true, false, ◌&&◌, cond, List, [], ◌∷◌, ◌++◌, ℕ, ◌+◌, ◌-◌, ◌*◌, ◌≤◌, ◌<◌, eqb, pos, ◌+ℤ◌, ◌-ℤ◌, ◌*ℤ◌, ◌<ℤ◌}
 use Rattle.warnings.specs.Warnings.{post_crash, validity_of, road_type_of}
 use Rattle.sample.specs.declared.Position.{Position}
 use Rattle.sample.specs.declared.Sample.{Sample}
 use Rattle.sample.specs.Sample.{switches_of}
+use Rattle.filter.specs.Filter.{is_at_most_8}
 use Rattle.message.specs.declared.Message.{Message}
 use Rattle.history.specs.declared.View.{View}
 use Rattle.history.specs.Rules.{Settings, rank, overrules}
-use Rattle.history.specs.History.{Past, Fact, never, size, stationary, parked, idling, braked, belted, ignited, door_open, boot_open, bonnet_open, condition_a, condition_b, condition_c, condition_d, one_of_e_to_h, is_new, is_cancel, ready, ecall_pressed, low_severity, high_severity, mitigation_active}
+use Rattle.history.specs.History.{Past, Fact, never, size, filter_after, speed_read, stationary, parked, idling, braked, belted, ignited, door_open, boot_open, bonnet_open, condition_a, condition_b, condition_c, condition_d, one_of_e_to_h, is_new, is_cancel, ready, ecall_pressed, low_severity, high_severity, mitigation_active}
 use Rattle.history.specs.Standing.{among, Stands}
 
 -- whether the history has a tick k and p is true at it
@@ -26,6 +27,26 @@ pub record AtSome (p : Fact) (h : Past) (a i : ℕ) : Type 0 where
   pub not_before : a ≤ tick
   pub not_after : tick ≤ i
   pub holds : at_tick p h tick ≡ true
+
+-- ---- standing still
+
+-- "the last reading" up to tick i is that of tick j
+pub record LastReading (h : Past) (i j : ℕ) : Type 0 where
+  pub not_after : j ≤ i
+  pub reading : at_tick speed_read h j ≡ true
+  pub none_since : AtAll (never speed_read) h (j + 1) i
+
+-- "F is at most 8", after the sample of a tick
+unfoldable pub f_at_most_8 : Fact
+f_at_most_8 t past = is_at_most_8 (filter_after (t ∷ past))
+
+-- "Up to 5 missing readings in a row leave still as it was at the last reading. The sixth makes it false. With no reading yet it is false.":
+-- at tick i there was a reading, that of tick j was the last, 5 are missing at most since, and after it F was at most 8
+pub record Still (h : Past) (i : ℕ) : Type 0 where
+  pub j : ℕ
+  pub last : LastReading h i j
+  pub at_most_5 : i ≤ j + 5
+  pub at_most_8 : at_tick f_at_most_8 h j ≡ true
 
 -- ---- the conditions
 

@@ -7,9 +7,9 @@ use message::Message;
 use sample::Sample;
 
 // The state's unbroken runs, by their places: for how many ticks up to now the vehicle has stood still, has moved, each lever and
-// switch has been as conditions a to h ask, and no eCall, no low severity crash or pedestrian collision, no high severity crash came.
-// Numbers and no enum: they are places of an array that the loops go over whole.
-pub const RUNS: usize = 13;
+// switch has been as conditions a to h ask, no eCall, no low severity crash or pedestrian collision, no high severity crash came, and no
+// sample had a reading. Numbers and no enum: they are places of an array that the loops go over whole.
+pub const RUNS: usize = 14;
 
 pub const STILL: usize = 0;
 
@@ -36,6 +36,8 @@ pub const NO_ECALL: usize = 10;
 pub const NO_LOW: usize = 11;
 
 pub const NO_HIGH: usize = 12;
+
+pub const MISSING: usize = 13;
 
 // Which of conditions a to d are fulfilled, and whether one of e to h is.
 #[derive(Clone, Copy)]

@@ -23,7 +23,7 @@ use Rattle.history.specs.Ranges.{counts, stopped_place, broken_down_place, start
 -- byte 0 is the layout's number. An image outlives the software that saved it: every change of what an image holds raises the number,
 -- so that an image of another layout is told by its first byte
 abbrev pub layout : ℕ
-layout = 1
+layout = 2
 
 -- then yes or no, one byte each: whether the filter is running, ignition, five marks of each cycle, whether a warning stands; and
 -- two zeros, so that every number stands at a place that four divides

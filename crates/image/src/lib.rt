@@ -12,7 +12,7 @@ use history::{RUNS, State};
 use wire::Refusal;
 
 // The first byte of an image. Every change of what an image holds raises it, so that no image of other software is misread.
-const LAYOUT: u8 = 1;
+const LAYOUT: u8 = 2;
 
 // Yes or no, by their places: whether the filter is running, ignition, five marks of each cycle, whether a warning stands; and two
 // zeros, so that every number stands at a place that four divides, where the compiler compares it whole. The places here and below are

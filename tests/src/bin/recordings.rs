@@ -8,7 +8,7 @@ use yoldrim_tests::printing;
 use yoldrim_tests::reference::{
     block_of, gear, happening, switch, Reference, Sample, BLOCK_SAMPLES,
 };
-use yoldrim_tests::scenes::stopped;
+use yoldrim_tests::scenes::{lose, stopped};
 
 fn main() -> io::Result<()> {
     let Some(folder) = std::env::args().nth(1) else {
@@ -36,6 +36,7 @@ fn all() -> Vec<(&'static str, Vec<u8>)> {
         ("refused-then-good", [&stop[..512 * 5], &damaged, &after].concat()),
         ("long-text", blocks(0..5000, flickering)),
         ("unresponsive-driver", blocks(0..100, unresponsive)),
+        ("lost-readings", blocks(0..325, car_wash)),
     ]
 }
 
@@ -85,5 +86,20 @@ fn unresponsive(sample: &mut Sample) {
     sample.happenings = happening::MITIGATION;
     if sample.tick == 72 {
         sample.happenings |= happening::HIGH_SEVERITY;
+    }
+}
+
+/// A stop in a car wash, in park with the brake on, where the sensor drops out.
+/// Five readings lost in the countdown leave the New of warning 1 at 100, which
+/// hazard lights off at 105 cancel. Six lost from 150 on wipe the countdown from
+/// 110: the next begins at 156, New at 256. Readings lost for good from 260 on:
+/// not still from 265, Cancel at 315.
+fn car_wash(sample: &mut Sample) {
+    parked(sample);
+    if (105..110).contains(&sample.tick) {
+        sample.switches &= !switch::HAZARD;
+    }
+    for lost in [60..65, 150..156, 260..325] {
+        lose(sample, lost);
     }
 }

@@ -2,7 +2,8 @@
 
 use super::*;
 use crate::printing;
-use crate::scenes::{self, stopped};
+use crate::scenes::{self, lose, stopped};
+use std::ops::Range;
 
 fn played(samples: &[Sample]) -> History {
     let mut history = History::default();
@@ -16,12 +17,15 @@ fn lines(history: &History) -> Vec<String> {
     history.messages().iter().map(|m| printing::line(&m.record())).collect()
 }
 
+/// Whether each tick of these speeds is still.
+fn still(speeds: impl Iterator<Item = u16>) -> Vec<bool> {
+    let sample = |(tick, speed)| Sample { speed, ..stopped(tick as u32) };
+    played(&speeds.enumerate().map(sample).collect::<Vec<_>>()).still
+}
+
 /// The first still tick of these speeds, if any is.
 fn first_still(speeds: impl Iterator<Item = u16>) -> Option<usize> {
-    let sample = |(tick, speed)| Sample { speed, ..stopped(tick as u32) };
-    let samples: Vec<Sample> = speeds.enumerate().map(sample).collect();
-    let history = played(&samples);
-    (0..samples.len()).find(|&i| history.still(i))
+    still(speeds).iter().position(|&still| still)
 }
 
 #[test]
@@ -183,12 +187,66 @@ fn filter_facts() {
     assert_eq!(first_still([NO_READING, NO_READING, 8].into_iter()), Some(2));
 }
 
+/// The ticks that are not still when these speeds are followed by so many missing
+/// readings, and then by standing still.
+fn not_still(speeds: &[u16], missing: usize) -> Vec<usize> {
+    let lost = [NO_READING; 10].into_iter().take(missing);
+    let still = still(speeds.iter().copied().chain(lost).chain([0]));
+    (0..still.len()).filter(|&i| !still[i]).collect()
+}
+
+#[test]
+fn five_missing_readings_leave_still_as_it_was_and_the_sixth_makes_it_false() {
+    for missing in 0..=5 {
+        assert_eq!(not_still(&[0], missing), []);
+    }
+    assert_eq!(not_still(&[0], 6), [6]);
+    assert_eq!(not_still(&[0], 8), [6, 7, 8]);
+    // What counts is F, here 30 / 4, and not the last reading.
+    assert_eq!(not_still(&[0, 30], 6), [7]);
+    // F is 9, and at last 9 - 9 / 4.
+    assert_eq!(not_still(&[9], 5), [0, 1, 2, 3, 4, 5]);
+    assert_eq!(not_still(&[9], 6), [0, 1, 2, 3, 4, 5, 6]);
+}
+
+#[test]
+fn a_reading_begins_the_count_of_missing_ones_anew() {
+    const M: u16 = NO_READING;
+    assert_eq!(not_still(&[0, M, M, M, M, M, 0], 5), []);
+    assert_eq!(not_still(&[0, M, M, M, M, M, M, 0], 6), [6, 13]);
+    assert_eq!(not_still(&[0, M, M, M, M, M, 100], 2), [6, 7, 8, 9]);
+}
+
+#[test]
+fn with_no_reading_yet_it_is_not_still() {
+    assert_eq!(not_still(&[], 3), [0, 1, 2]);
+    assert_eq!(not_still(&[], 8), [0, 1, 2, 3, 4, 5, 6, 7]);
+}
+
+/// stationarySince at these ticks of a stand without readings at the ticks `lost`.
+fn stationary_since<const N: usize>(lost: Range<u32>, ticks: [usize; N]) -> [u8; N] {
+    let sample = |tick| {
+        let mut sample = stopped(tick);
+        lose(&mut sample, lost.clone());
+        sample
+    };
+    let history = played(&(0..=9_306).map(sample).collect::<Vec<_>>());
+    ticks.map(|i| history.stationary_since(i))
+}
+
 #[test]
 fn stationary_since_turns_at_1_2_and_15_minutes() {
-    let samples: Vec<Sample> = (0..=9_000).map(stopped).collect();
-    let history = played(&samples);
-    let at = |i| history.stationary_since(i);
-    assert_eq!([at(599), at(600), at(1_199), at(1_200), at(8_999), at(9_000)], [0, 1, 1, 2, 2, 3]);
+    let turns = [599, 600, 1_199, 1_200, 8_999, 9_000];
+    assert_eq!(stationary_since(0..0, turns), [0, 1, 1, 2, 2, 3]);
+    assert_eq!(stationary_since(300..305, turns), [0, 1, 1, 2, 2, 3]);
+    assert_eq!(stationary_since(8_996..9_001, turns), [0, 1, 1, 2, 2, 3]);
+}
+
+#[test]
+fn stationary_since_begins_anew_after_six_missing_readings() {
+    let turns = [905, 906, 1_505, 1_506, 9_305, 9_306];
+    assert_eq!(stationary_since(300..306, turns), [0, 1, 1, 2, 2, 3]);
+    assert_eq!(stationary_since(700..720, [704, 705, 719, 720]), [1, 0, 0, 0]);
 }
 
 #[test]
