@@ -23,7 +23,7 @@ pub record LossStops : Type 0 where
   pub twenty : lines_up_to 420 (missing 100 119 ∷ []) ≡ line 420 N 1 1 1 ∷ []
   -- "in a row": five, a reading, and five
   pub five_twice : lines_up_to 300 (missing 100 104 ∷ missing 106 110 ∷ []) ≡ line 300 N 1 1 1 ∷ []
-  -- a New and an Update that fall on ticks without a reading
+  -- a New and an Update that fall on ticks without a reading, of 1; and a New of 2
   pub new_and_update : lines_up_to 450 (missing 296 300 ∷ missing 448 452 ∷ []) ≡ line 300 N 1 1 1 ∷ line 450 U 1 1 1 ∷ []
   pub new_of_2 : lines_up_to 30 (broken_down (missing 26 30 ∷ [])) ≡ line 30 N 2 3 1 ∷ []
   -- "With no reading yet it is false.": no reading up to 2; still from the first reading on
@@ -38,7 +38,7 @@ pub record LossStops : Type 0 where
   -- "stationarySince": six missing up to 105 begin the run anew, at 106, and five from 200 on do not: 8,999 ticks at 9,105, and 15 minutes at 9,106
   pub since : messages_up_to 9106 (missing 100 105 ∷ missing 200 204 ∷ switch_off hazard ∷ at_alone 9105 (with_happening ecall) ∷ from 9106 (switch_off ignition) ∷ [])
       ≡ whole (line 9105 N 3 1 1) 9105 2 180 (place 255 0 0 0) ∷ whole (line 9106 U 3 1 1) 9106 3 180 (place 255 0 0 0) ∷ []
-  -- "or on any other if still at i", of 3: eCall at the fifth tick without a reading, and at the sixth
+  -- "or on any other if still at i", of 3: eCall at the fifth tick without a reading, and at the sixth, so that the New comes with the first reading, at 17
   pub ecall_at_fifth : lines_up_to 14 (switch_off hazard ∷ missing 10 14 ∷ at_alone 14 (with_happening ecall) ∷ []) ≡ line 14 N 3 1 1 ∷ []
   pub ecall_at_sixth : lines_up_to 17 (switch_off hazard ∷ missing 10 16 ∷ at_alone 15 (with_happening ecall) ∷ []) ≡ line 17 N 3 1 1 ∷ []
   -- "Warning 4 triggers while the bit is set and the vehicle isn't still.": at the sixth, and it ends with the first reading; not at the fifth
