@@ -34,14 +34,15 @@ fn cycle_triggers(c: Cycle) -> bool
     (0 < c.ticks) & ((300 < c.ticks.saturating_add(100 * fulfilled(c))) | c.marks.expiring)
 }
 
+// Now minus the run's first tick is one less than the run's ticks, and 600 ticks are a minute.
 #[tactic(auto, unfolding(history::specs::Rules::stationary_since))]
 fn stationary_since(ticks: u32) -> u8
     ensures { result ≡ stationary_since ticks }
 {
-    match ticks.saturating_sub(1) / 600 {
-        0 => 0,
-        1 => 1,
-        2..=14 => 2,
+    match ticks.saturating_sub(1) {
+        ..600 => 0,
+        ..1200 => 1,
+        ..9000 => 2,
         _ => 3,
     }
 }
