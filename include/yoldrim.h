@@ -1,11 +1,11 @@
 /* Yoldrim: the decision routine of a stationary vehicle warning unit, called from C.
  *
- * Every piece of memory goes as a pointer and then its length in bytes. A pointer is not null, not even with the length 0, and the
+ * Every piece of memory goes as a pointer and then its length in bytes; one number that is written, as a pointer alone. A pointer is not null, not even with the length 0, and the
  * pieces that one call is given do not overlap. No call keeps a pointer, allocates memory, or stops the program.
  *
- * Every call answers an int32_t: not negative, the count that its comment names; negative, minus a refusal number of document 01,
- * "What is turned down". A refused call leaves all lent memory as it was. An accepted one writes the start of `out` and leaves the
- * rest as lent.
+ * Every call answers an int32_t: not negative, the count or the answer that its comment names; negative, minus the number of a refusal,
+ * those of document 01, "What is turned down", and 31 to 33 of a receiver (CR 4). A refused call leaves all lent memory as it was. An
+ * accepted one writes the start of `out` and leaves the rest as lent.
  *
  * Formats (samples, blocks, messages: little-endian) are those of document 01, with what change request CR 1 adds: happening bit 4 of a
  * sample says that a risk mitigation function is active, refusal 5 covers bits 5 to 7, and warning 4 is that for an unresponsive driver,
@@ -103,6 +103,58 @@ int32_t yoldrim_block_write(const uint8_t *samples, size_t samples_bytes, uint8_
 
 /* Answers 0 for the bytes of a message, -13 for a wrong length, -14 for a field that no message has. */
 int32_t yoldrim_message_check(const uint8_t *message, size_t message_bytes);
+
+/* The receiver (CR 4): what other vehicles warn of. It holds one message for each of up to eight senders, each known by a number of 32
+ * bits, and lives in memory that the caller lends: an image of this many bytes, no more and no fewer, with no pointer in it. Its bytes,
+ * little-endian:
+ *   0        YOLDRIM_RECEIVER_LAYOUT
+ *   1-3      zeros
+ *   4-7      last accepted tick, 0 before the first
+ *   8-327    eight places of 40 bytes: sender (4 bytes), arrival (4), the message's record (32)
+ * The messages that are held and had not lapsed when the last message was accepted stand in the first places, by rising sender; the
+ * other places are zeros. Memory that is no receiver's is refused with 21: of another length or layout, or with a byte that saving a
+ * receiver never makes in its place (byte 0 not the layout, bytes 1 to 3 not zero, a place's sub cause, cause or direction not those of
+ * its warning and road type). What the calls make of memory that holds something else which no calls on an empty receiver leave, such as
+ * places out of order, is left free, but for what stands at the head of this file.
+ * examples/receive.c shows the use of these calls. Refusals 31 to 33 are those of CR 4. */
+#define YOLDRIM_RECEIVER_BYTES 328
+
+/* The layout's number, the first byte of every receiver: as the engine's, every change of what a receiver holds raises it, and a
+ * receiver of another layout is refused with 21 and left as it was. */
+#define YOLDRIM_RECEIVER_LAYOUT 1
+
+/* Output that showing needs, and what each message takes of it: sender (4 bytes, little-endian) and record. */
+#define YOLDRIM_SHOW_OUT_BYTES 288
+#define YOLDRIM_SHOWN_BYTES 36
+
+/* Makes the image of a receiver that has accepted no message. Answers 0; -21 for another length than YOLDRIM_RECEIVER_BYTES, also a
+ * longer one. */
+int32_t yoldrim_receiver_empty(uint8_t *receiver, size_t receiver_bytes);
+
+/* Takes a message from a sender at the present tick of the receiver's own clock, in 100 ms as the samples' are. It takes the place of
+ * the message held of that sender, if there is one, and lapses once 10 times its validity in ticks have passed since it arrived. A
+ * Cancel is held too, until it lapses. Answers 1. Refusals in the order 21, 13, 14, then 31 for a tick below the last accepted one, 32
+ * for a message that is no newer than the unlapsed one held of that sender (newer is a higher event, or the same event and a higher
+ * reference tick), and 33 for a ninth sender while eight others are unlapsed. Unlapsed is judged at the tick that the call brings. A
+ * refused call leaves the clock where it was. */
+int32_t yoldrim_receive(uint8_t *receiver, size_t receiver_bytes, uint32_t tick, uint32_t sender, const uint8_t *message,
+                        size_t message_bytes);
+
+/* Writes the messages held to `out`, but no Cancel and none that had lapsed by the last accepted tick: 36 bytes each, sender and record,
+ * by rising sender. Answers how many they are, 0 to 8. Refusals in the order 21, 2. */
+int32_t yoldrim_show(const uint8_t *receiver, size_t receiver_bytes, uint8_t *out, size_t out_bytes);
+
+/* The answers of the call for the driver's lamp (CR 4). */
+#define YOLDRIM_LAMP_UNKNOWN 0
+#define YOLDRIM_LAMP_STANDING 1
+#define YOLDRIM_LAMP_SECONDS 2
+
+/* Finds the seconds to a hazard from the gap along the road in cm and the own speed in cm/s. Answers YOLDRIM_LAMP_UNKNOWN unless the gap
+ * is 0 to 200,000 and the speed 0 to 16,383; else YOLDRIM_LAMP_STANDING for a speed below 1; else YOLDRIM_LAMP_SECONDS, and then
+ * `seconds` is the gap divided by the speed, rounded once. The other answers leave `seconds` as it was. Refuses nothing. The own speed is
+ * the filter's value, bytes 52-55 of the engine as a float; before its first reading (byte 1 is 0) there is none, and the caller passes
+ * a NaN, which is unknown. */
+int32_t yoldrim_lamp(float gap, float speed, float *seconds);
 
 #ifdef __cplusplus
 }

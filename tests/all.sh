@@ -1,5 +1,5 @@
 #!/usr/bin/env bash
-# All tests: the proofs with the must-fail edits and the programs (rt ci), the example recordings, the C example, and the
+# All tests: the proofs with the must-fail edits and the programs (rt ci), the example recordings, the C examples, and the
 # comparison of the static library with the second implementation. The last line is that of rt ci, printed only when all passed.
 # Usage: tests/all.sh [ROUNDS], the number of rounds of random days in the comparison.
 set -euo pipefail
@@ -31,9 +31,11 @@ have() {
 }
 
 make --no-print-directory lib
-if have cc "the C example"; then
-    cc -O2 -Wall -Wextra -Werror -I target -o target/stop examples/stop.c target/libyoldrim.a
-    target/stop
+if have cc "the C examples"; then
+    for example in stop receive; do
+        cc -O2 -Wall -Wextra -Werror -I target -o "target/$example" "examples/$example.c" target/libyoldrim.a
+        "target/$example"
+    done
 fi
 
 if have cargo "the comparison with the second implementation"; then

@@ -3,8 +3,9 @@
 //! their order.
 
 use crate::reference::{
-    block_check, BLOCK_BYTES, BLOCK_HEADER, BLOCK_OUTPUT, FARTHEST, MESSAGE_BYTES, MOST_SAMPLES,
-    READER_OUTPUT, SAMPLE_BYTES, SAMPLE_OUTPUT,
+    block_check, has_cancel, kind, rules, Message, BLOCK_BYTES, BLOCK_HEADER, BLOCK_OUTPUT,
+    BROKEN_DOWN, FARTHEST, MESSAGE_BYTES, MOST_SAMPLES, POST_CRASH, READER_OUTPUT, ROAD_OMITTED,
+    SAMPLE_BYTES, SAMPLE_OUTPUT, STOPPED, UNRESPONSIVE_DRIVER,
 };
 
 /// One change to a call's input or to the memory lent.
@@ -196,4 +197,42 @@ pub fn of_message() -> Vec<Change> {
         puts(30, 2, &[0, 1, 2, 3, 29, 30, 31, 179, 180, 181, 2 + 256, 30 + 256, 65_535]),
     ]
     .concat()
+}
+
+/// A good message of each kind and warning, but no Cancel of warning 4; the
+/// Cancel's detection is earlier than its reference.
+pub fn good_messages() -> Vec<Message> {
+    // Warning, quality, roadType, direction, stationarySince and validity.
+    let warnings = [
+        (STOPPED, 1, 0, 0, 2, 30),
+        (BROKEN_DOWN, 2, 3, 1, 1, 30),
+        (POST_CRASH, 3, ROAD_OMITTED, 0, 0, 180),
+        (UNRESPONSIVE_DRIVER, 1, 1, 1, 3, 2),
+    ];
+    let mut messages = Vec::new();
+    for kind in [kind::NEW, kind::UPDATE, kind::CANCEL] {
+        for (warning, quality, road_type, direction, stationary_since, validity) in warnings {
+            if kind == kind::CANCEL && !has_cancel(warning) {
+                continue;
+            }
+            messages.push(Message {
+                kind,
+                warning,
+                sub_cause: rules(warning).sub_cause,
+                cause: rules(warning).cause,
+                quality,
+                road_type,
+                direction,
+                stationary_since,
+                event: 17,
+                detection: 300,
+                reference: if kind == kind::CANCEL { 9_999_999 } else { 300 },
+                east: -1_000_000,
+                north: 1_000_000,
+                heading: 3_601,
+                validity,
+            });
+        }
+    }
+    messages
 }

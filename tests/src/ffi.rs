@@ -30,6 +30,17 @@ extern "C" {
         out_len: usize,
     ) -> i32;
     fn yoldrim_message_check(message: *const u8, message_len: usize) -> i32;
+    fn yoldrim_receiver_empty(receiver: *mut u8, receiver_len: usize) -> i32;
+    fn yoldrim_receive(
+        receiver: *mut u8,
+        receiver_len: usize,
+        tick: u32,
+        sender: u32,
+        message: *const u8,
+        message_len: usize,
+    ) -> i32;
+    fn yoldrim_show(receiver: *const u8, receiver_len: usize, out: *mut u8, out_len: usize) -> i32;
+    fn yoldrim_lamp(gap: f32, speed: f32, seconds: *mut f32) -> i32;
 }
 
 /// The size of an engine's image, from the library's header.
@@ -73,6 +84,39 @@ pub fn block(engine: &mut [u8], block: &[u8], out: &mut [u8]) -> i32 {
             out.len(),
         )
     }
+}
+
+/// `yoldrim_receiver_empty` on an image of any length.
+pub fn receiver_empty(receiver: &mut [u8]) -> i32 {
+    // SAFETY: pointer and length are those of one live, exclusive slice.
+    unsafe { yoldrim_receiver_empty(receiver.as_mut_ptr(), receiver.len()) }
+}
+
+/// `yoldrim_receive` on an image of any length.
+pub fn receive(receiver: &mut [u8], tick: u32, sender: u32, message: &[u8]) -> i32 {
+    // SAFETY: as for `sample`.
+    unsafe {
+        yoldrim_receive(
+            receiver.as_mut_ptr(),
+            receiver.len(),
+            tick,
+            sender,
+            message.as_ptr(),
+            message.len(),
+        )
+    }
+}
+
+/// `yoldrim_show` on an image of any length.
+pub fn show(receiver: &[u8], out: &mut [u8]) -> i32 {
+    // SAFETY: as for `sample`.
+    unsafe { yoldrim_show(receiver.as_ptr(), receiver.len(), out.as_mut_ptr(), out.len()) }
+}
+
+/// `yoldrim_lamp`.
+pub fn lamp(gap: f32, speed: f32, seconds: &mut f32) -> i32 {
+    // SAFETY: the pointer is to a live, exclusive number.
+    unsafe { yoldrim_lamp(gap, speed, seconds) }
 }
 
 /// The library as a unit; the engine's image is kept here.

@@ -1,6 +1,7 @@
-//! The header's table of an image's bytes, held to the library: its rows follow
+//! The header's table of an engine's bytes, held to the library: its rows follow
 //! one another without a gap, each number of an engine stands where its row
-//! says, and an image of another layout is refused.
+//! says, and an image of another layout is refused. Each table stands in the
+//! comment right above the line that defines its size.
 
 use crate::comparison::Comparison;
 use crate::days::{self, Day};
@@ -25,8 +26,9 @@ pub fn declare(tally: &mut Tally) {
 
 pub fn check(comparison: &mut Comparison) {
     comparison.restart("the header's table of an image", 1);
-    let table = match Table::read() {
-        Ok(table) => table,
+    let table = match Table::read(SIZE_NAME, LAYOUT_NAME) {
+        Ok(table) if table.bytes() == ENGINE_BYTES => table,
+        Ok(table) => comparison.fail(&format!("a table of {} bytes", table.bytes())),
         Err(what) => comparison.fail(&what),
     };
     fresh_image(comparison, &table);
@@ -45,16 +47,22 @@ struct Row {
     text: String,
 }
 
-struct Table {
+/// A table of the header, one row behind the other.
+pub struct Table {
     rows: Vec<Row>,
-    layout: u8,
+    pub layout: u8,
+}
+
+pub fn header() -> Result<String, String> {
+    fs::read_to_string(HEADER).map_err(|error| format!("{HEADER}: {error}"))
 }
 
 impl Table {
-    /// The header's table and its two numbers.
-    fn read() -> Result<Table, String> {
-        let header = fs::read_to_string(HEADER).map_err(|error| format!("{HEADER}: {error}"))?;
-        let rows: Vec<Row> = header.lines().filter_map(row).collect();
+    /// The header's table of so many bytes as the first name says, and the layout's
+    /// number by the second.
+    pub fn read(size_name: &str, layout_name: &str) -> Result<Table, String> {
+        let header = header()?;
+        let rows: Vec<Row> = comment_above(&header, size_name)?.lines().filter_map(row).collect();
         let mut next = 0;
         for row in &rows {
             if row.first != next || row.last < row.first {
@@ -62,13 +70,23 @@ impl Table {
             }
             next = row.last + 1;
         }
-        let bytes = defined(&header, SIZE_NAME)?;
-        if next != bytes || bytes != ENGINE_BYTES {
-            return Err(format!("the table ends before byte {next}, {SIZE_NAME} is {bytes}"));
+        let bytes = defined(&header, size_name)?;
+        if next != bytes {
+            return Err(format!("the table ends before byte {next}, {size_name} is {bytes}"));
         }
-        let layout = defined(&header, LAYOUT_NAME)?;
-        let layout = u8::try_from(layout).map_err(|_| format!("{LAYOUT_NAME} is no byte"))?;
+        let layout = defined(&header, layout_name)?;
+        let layout = u8::try_from(layout).map_err(|_| format!("{layout_name} is no byte"))?;
         Ok(Table { rows, layout })
+    }
+
+    /// How many bytes its rows take.
+    pub fn bytes(&self) -> usize {
+        self.rows.last().map_or(0, |row| row.last + 1)
+    }
+
+    /// How many rows it has.
+    pub fn rows(&self) -> usize {
+        self.rows.len()
     }
 
     /// The row that begins with these words.
@@ -81,7 +99,7 @@ impl Table {
     }
 
     /// Whether the image holds these bytes in the row of these words.
-    fn holds(&self, image: &[u8], words: &str, bytes: &[u8]) -> Result<(), String> {
+    pub fn holds(&self, image: &[u8], words: &str, bytes: &[u8]) -> Result<(), String> {
         let row = self.row(words)?;
         let found = &image[row.first..=row.last];
         if found == bytes {
@@ -103,8 +121,15 @@ fn row(line: &str) -> Option<Row> {
     })
 }
 
+/// The comment right above the header's line `#define NAME`.
+fn comment_above<'a>(header: &'a str, name: &str) -> Result<&'a str, String> {
+    let above = header.split_once(&format!("\n#define {name} ")).map(|(above, _)| above);
+    let comment = above.and_then(|above| above.strip_suffix("*/")?.rsplit_once("/*"));
+    comment.map(|(_, text)| text).ok_or(format!("no comment above {name} in {HEADER}"))
+}
+
 /// The number in the header's line `#define NAME n`.
-fn defined(header: &str, name: &str) -> Result<usize, String> {
+pub fn defined(header: &str, name: &str) -> Result<usize, String> {
     let number =
         |line: &str| line.strip_prefix("#define ")?.strip_prefix(name)?.trim().parse().ok();
     header.lines().find_map(number).ok_or(format!("no {name} in {HEADER}"))

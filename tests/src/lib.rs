@@ -12,6 +12,7 @@ pub mod layout;
 pub mod plain;
 pub mod printing;
 pub mod random;
+pub mod receiver;
 pub mod reference;
 pub mod scenes;
 pub mod tally;

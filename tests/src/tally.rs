@@ -50,7 +50,7 @@ pub fn edges_of_still() -> [(&'static str, f32); 3] {
     [("8", limit), ("next above 8", limit.next_up()), ("next below 8", limit.next_down())]
 }
 
-const KINDS: [&str; 3] = ["New", "Update", "Cancel"];
+pub const KINDS: [&str; 3] = ["New", "Update", "Cancel"];
 const CONDITIONS: [&str; 8] = ["a", "b", "c", "d", "e", "f", "g", "h"];
 const HAPPENINGS: [&str; 4] = ["eCall", "low severity", "pedestrian", "high severity"];
 
@@ -75,7 +75,7 @@ const IN_COUNTDOWNS: [&str; 4] = [
 ];
 
 /// The warnings that end with a Cancel.
-const WITH_CANCEL: [u8; 3] = [STOPPED, BROKEN_DOWN, POST_CRASH];
+pub const WITH_CANCEL: [u8; 3] = [STOPPED, BROKEN_DOWN, POST_CRASH];
 
 /// Bytes of a record that 14 refuses as its warning has another value there:
 /// which, their place, the warning, the value, and one that the warning has.
@@ -140,7 +140,7 @@ impl Tally {
         self.rows[place].1 += 1;
     }
 
-    fn count_if(&mut self, occurred: bool, row: &str) {
+    pub fn count_if(&mut self, occurred: bool, row: &str) {
         if occurred {
             self.count(row);
         }

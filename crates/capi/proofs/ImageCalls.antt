@@ -2,22 +2,22 @@
 -- Assumes nothing.
 use mathlib.Core.Path.{◌≡◌, refl, sym, ap, ◌∙◌}
 use mathlib.Core.Bool.{Bool, true, false, not, cond}
-use mathlib.Core.List.{List, [], append-nil}
-use Prim.Native.Nat.{ℕ, ◌≤◌}
+use mathlib.Core.List.{List}
+use Prim.Native.Nat.{ℕ}
 use native.Mathlib.Omega.{arith}
 use borrow.Author.Tests.{ne_eqb, not-false}
 use lib.Dec.{eqb}
 use lib.IntN.{ℤ, pos, neg_ℤ}
-use lib.ListN.{length, drop, drop_of_length-le}
+use lib.ListN.{length}
 use mir.Syntax.{w32}
 use mir.Val.{to_z, of_z, SFits}
-use Rattle.wire.specs.Memory.{splice, overlay}
+use Rattle.wire.specs.Memory.{splice}
 use Rattle.wire.specs.Outcome.{first_fault, accepted, refused, outcome, number_of, Answer, answered}
 use Rattle.std.specs.Prelude.{Ok, Err}
 use Rattle.std.specs.Result.{is_ok}
 use Rattle.wire.specs.declared.Refusal.{Refusal}
 use Rattle.wire.proofs.FirstFault.{accepted_clear, numbered, outcome_refused, memory_refused}
-use Rattle.wire.proofs.Splice.{splice-overlay}
+use Rattle.wire.proofs.Splice.{splice_whole}
 use Rattle.sample.specs.declared.Sample.{Sample}
 use Rattle.history.specs.declared.State.{State}
 use Rattle.history.specs.Rules.{unit_settings}
@@ -35,12 +35,7 @@ use Rattle.capi.proofs.Numbers.{again}
 
 -- an image written over memory of its length
 pub image_written : (s : State) (image : List ℕ) → length s.runs ≡ run_count → length image ≡ image_size → splice image 0 (image_of s) ≡ image_of s
-unfolding overlay
-image_written s image size h =
-    let n = image_length s size in
-    let end : length image ≤ length (image_of s) = omega arith in
-    let rest : drop (length (image_of s)) image ≡ [] = drop_of_length-le image end in
-    splice-overlay image (image_of s) (omega arith) ∙ rw (rest, append-nil)
+image_written s image size h = splice_whole image (image_of s) (image_length s size ∙ sym h)
 
 state_runs : (image : List ℕ) → length (state_in image).runs ≡ run_count
 unfolding state_in
@@ -48,26 +43,26 @@ state_runs image = runs_in_length image
 
 -- what was kept, by the engine's promise
 kept_image : (fault : ℕ) (xs : List Sample) (image : List ℕ) → length image ≡ image_size
-    → image_kept (call_answer fault xs (state_in image)) (call_state fault xs (state_in image)) image ≡ call_image fault xs image
+    → image_kept (call_answer fault xs (state_in image)) (image_of (call_state fault xs (state_in image))) image ≡ call_image fault xs image
 unfolding call_answer call_state call_image outcome image_kept
 kept_image fault xs image h = go (eqb fault 0)
   where
     go : (b : Bool) → image_kept (cond b (accepted (length (steps_give unit_settings (state_in image) xs))) (refused fault))
-        (cond b (state_after unit_settings (state_in image) xs) (state_in image)) image
+        (image_of (cond b (state_after unit_settings (state_in image) xs) (state_in image))) image
         ≡ cond b (image_of (state_after unit_settings (state_in image) xs)) image
     go true = image_written (state_after unit_settings (state_in image) xs) image (runs_kept unit_settings (state_in image) xs (state_runs image)) h
     go false = refl
 
 -- the memory after a call, by whether it is accepted
-pub kept_accepted : (a : Answer) (s : State) (image last : List ℕ) → is_ok a ≡ true → last ≡ splice image 0 (image_of s) → last ≡ image_kept (answered a) s image
+pub kept_accepted : (a : Answer) (kept image last : List ℕ) → is_ok a ≡ true → last ≡ splice image 0 kept → last ≡ image_kept (answered a) kept image
 unfolding image_kept answered
-kept_accepted (Ok n) s image last h e = e
-kept_accepted (Err r) s image last h e = let z : ◌≡◌ {A = ℕ} 0 1 = cc in absurd (omega arith)
+kept_accepted (Ok n) kept image last h e = e
+kept_accepted (Err r) kept image last h e = let z : ◌≡◌ {A = ℕ} 0 1 = cc in absurd (omega arith)
 
-pub kept_refused : (a : Answer) (s : State) (image last : List ℕ) → is_ok a ≡ false → last ≡ image → last ≡ image_kept (answered a) s image
+pub kept_refused : (a : Answer) (kept image last : List ℕ) → is_ok a ≡ false → last ≡ image → last ≡ image_kept (answered a) kept image
 unfolding image_kept answered
-kept_refused (Ok n) s image last h e = let z : ◌≡◌ {A = ℕ} 0 1 = cc in absurd (omega arith)
-kept_refused (Err r) s image last h e = e
+kept_refused (Ok n) kept image last h e = let z : ◌≡◌ {A = ℕ} 0 1 = cc in absurd (omega arith)
+kept_refused (Err r) kept image last h e = e
 
 -- the state that passes the checks of what is lent is that of an image
 pub lent_accepted : (image bytes : List ℕ) (size room needed : ℕ) (s : State)
@@ -97,7 +92,7 @@ module _ (image : List ℕ) (c : Call) where
 
     -- the promise, from the engine's and from what `finish` does, with the number as `finish` gave it
     pub image_meets : (s : State) → state_in image ≡ s → (next : State) (r : Answer) (z : ℤ) (imageLast outLast : List ℕ) → SFits w32 z
-        → (z ≡ answer_number (answered r)) × (imageLast ≡ image_kept (answered r) next image)
+        → (z ≡ answer_number (answered r)) × (imageLast ≡ image_kept (answered r) (image_of next) image)
         → Meets s c next r outLast
         → ImageMeets image c (to_z w32 (of_z w32 z)) imageLast outLast
     image_meets s same next r z imageLast outLast f p m =

@@ -3,3 +3,5 @@ pub mod Counts
 pub mod ImageCalls
 pub mod ImageDemandHolds
 pub mod FreshImages
+pub mod ReceiverCalls
+pub mod ReceiverDemandHolds

@@ -5,7 +5,6 @@ use Rattle.wire.specs.Memory.{splice}
 use Rattle.wire.specs.Outcome.{check, first_fault, Outcome, accepted, refused, outcome}
 use Rattle.sample.specs.declared.Sample.{Sample}
 use Rattle.message.specs.declared.Message.{Message}
-use Rattle.history.specs.declared.State.{State}
 use Rattle.history.specs.Rules.{unit_settings}
 use Rattle.history.specs.State.{fresh, state_after}
 use Rattle.calls.specs.Calls.{Call, lent, samples_added, call_fault, call_answer, call_memory}
@@ -46,7 +45,7 @@ fresh_number image = answer_number (outcome (fresh_fault image) 0)
 unfoldable pub fresh_image : List ℕ → List ℕ
 fresh_image image = cond (eqb (fresh_fault image) 0) (image_of fresh) image
 
--- the memory after an engine was kept in it, as the private `finish` does
-unfoldable pub image_kept : Outcome ℕ → State → List ℕ → List ℕ
-image_kept (accepted n) s image = splice image 0 (image_of s)
-image_kept (refused n) s image = image
+-- the memory after the image of an accepted call was kept in it, as the private `finish` does
+unfoldable pub image_kept : Outcome ℕ → List ℕ → List ℕ → List ℕ
+image_kept (accepted n) kept image = splice image 0 kept
+image_kept (refused n) kept image = image

@@ -1,2 +1,4 @@
 pub mod Imaged
 pub mod ImageDemand
+pub mod ReceiverImaged
+pub mod ReceiverDemand

@@ -2,6 +2,8 @@
 // and a negative one is minus the refusal number.
 #![tactic(auto)]
 
+mod receiving;
+
 ghost use Rattle.std.specs.Prelude.{◌≡◌, not, [], ◌∷◌, eqb, ltb, length, ◌≤◌, pos, neg_ℤ};
 ghost use Rattle.wire.specs.Outcome.{check, first_fault, number_of, outcome, answered, given_count};
 ghost use Rattle.message.specs.Message.{message_read};
@@ -11,7 +13,7 @@ ghost use Rattle.image.specs.Image.{is_image, state_in};
 ghost use Rattle.capi.specs.Imaged.{answer_number, check_number, image_kept, ImageMeets};
 ghost use Rattle.capi.specs.ImageDemand.{FreshImaged};
 
-use engine::{Called, Engine};
+use engine::Engine;
 use history::State;
 use image::BYTES;
 use wire::Refusal;
@@ -35,7 +37,10 @@ pub extern "C" fn yoldrim_sample(memory: &mut [u8], bytes: &[u8], out: &mut [u8]
     ensures { ImageMeets memory.old (sample_call bytes.now out.old) result memory.new out.new }
 {
     match lent_state(memory, bytes, 20, out.len(), 64) {
-        Ok(state) => finish(Engine { state }.step(bytes, out), memory),
+        Ok(state) => {
+            let called = Engine { state }.step(bytes, out);
+            finish(called.answer, &image::save(called.engine.state), memory)
+        }
         Err(refusal) => minus(refusal),
     }
 }
@@ -46,7 +51,10 @@ pub extern "C" fn yoldrim_block(memory: &mut [u8], bytes: &[u8], out: &mut [u8])
     ensures { ImageMeets memory.old (block_call bytes.now out.old) result memory.new out.new }
 {
     match lent_state(memory, bytes, 512, out.len(), 1600) {
-        Ok(state) => finish(Engine { state }.block(bytes, out), memory),
+        Ok(state) => {
+            let called = Engine { state }.block(bytes, out);
+            finish(called.answer, &image::save(called.engine.state), memory)
+        }
         Err(refusal) => minus(refusal),
     }
 }
@@ -110,13 +118,13 @@ fn number(answer: Result<usize, Refusal>) -> i32
     }
 }
 
-// Keeps the engine of an accepted call in the memory, and gives the answer as a number.
-fn finish(called: Called, memory: &mut [u8]) -> i32
-    requires { given_count called.answer ≤ 50 }
-    ensures { (result ≡ answer_number (answered called.answer)) × (memory.new ≡ image_kept (answered called.answer) called.engine.state memory.old) }
+// Keeps the image after an accepted call in the memory, and gives the answer as a number.
+fn finish(answer: Result<usize, Refusal>, image: &[u8], memory: &mut [u8]) -> i32
+    requires { given_count answer ≤ 50 }
+    ensures { (result ≡ answer_number (answered answer)) × (memory.new ≡ image_kept (answered answer) image.now memory.old) }
 {
-    if called.answer.is_ok() {
-        wire::copy_at(memory, 0, &image::save(called.engine.state));
+    if answer.is_ok() {
+        wire::copy_at(memory, 0, image);
     }
-    number(called.answer)
+    number(answer)
 }

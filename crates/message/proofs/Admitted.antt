@@ -1,11 +1,12 @@
 -- What refusal 14 lets pass, as facts on the fields: `admits` in both directions.
 -- Assumes nothing.
 use mathlib.Core.Bool.{true, false, not, ◌||◌}
-use Prim.Native.Nat.{ℕ, ◌≤◌}
+use Prim.Native.Nat.{ℕ, ◌≤◌, ◌<◌}
 use lib.Dec.{T, leb, eqb, leb→le, le→leb}
 use lib.ListN.{get_or}
-use Rattle.wire.proofs.Tests.{holds_at, holds_all}
+use Rattle.wire.proofs.Tests.{one_of, holds_at, holds_all}
 use Rattle.warnings.specs.Warnings.{cancel, warning_count, row_of, validity_of}
+use Rattle.warnings.proofs.Table.{validity_above}
 use Rattle.sample.specs.Sample.{beyond}
 use Rattle.message.specs.Message.{field_tests, admits}
 use Rattle.message.specs.declared.Message.{Message}
@@ -50,6 +51,13 @@ admitted m t =
       heading = leb→le _ _ (at 14);
       validity = at 15;
     }
+
+-- it is valid for some time
+pub valid : (m : Message) → T (admits m) → 0 < m.validity
+valid m t =
+    let a = admitted m t in
+    one_of (λ v. 0 < v) m.validity (validity_of m.warning true) (validity_of m.warning false)
+    (validity_above m.warning true a.warning_low a.warning_high) (validity_above m.warning false a.warning_low a.warning_high) a.validity
 
 pub admits_it : (m : Message) → Admitted m → T (admits m)
 unfolding admits field_tests

@@ -1,7 +1,7 @@
 -- What the writer makes reads back as the same fields, and what the reader accepts is byte for byte what the writer makes.
 -- Assumes nothing.
 use mathlib.Core.Path.{◌≡◌, refl, sym, ap, ◌∙◌}
-use mathlib.Core.Bool.{Bool, true, false, not, ◌||◌, ◌&&◌}
+use mathlib.Core.Bool.{true, false, not, ◌&&◌}
 use mathlib.Core.List.{List, [], ◌∷◌, ◌++◌}
 use Prim.Native.Nat.{ℕ, suc, ◌^◌, ◌<◌}
 use native.Mathlib.Omega.{arith}
@@ -21,7 +21,7 @@ use Rattle.wire.specs.Tests.{all_hold}
 use Rattle.wire.proofs.Words.{little-bytes_of, bytes_of-word, word_below, bytes_at_all}
 use Rattle.wire.proofs.FirstFault.{accepted_clear, clear_first, memory_accepted}
 use Rattle.wire.proofs.Splice.{overlay-take}
-use Rattle.wire.proofs.Tests.{holds_at, holds_true, true_holds, neither}
+use Rattle.wire.proofs.Tests.{one_of, holds_at, holds_true, true_holds, neither}
 use lib.Ieee.Fits.{and_l, and_r}
 use Rattle.wire.proofs.TwosComplement.{signed_again}
 use Rattle.warnings.specs.Warnings.{row_of, direction_of, validity_of}
@@ -52,15 +52,6 @@ position_again p t =
     let n = neither (outside p.east) (outside p.north) t in
     rw (coordinate_again p.east n.0, coordinate_again p.north n.1)
 
--- the validity of a warning, with ignition on or off, fits two bytes
-either_small : (v a b : ℕ) → a < 256 → b < 256 → T (eqb v a || eqb v b) → v < 256 ^ 2
-either_small v a b h k t = go (eqb v a) (eqb v b) refl refl t
-  where
-    go : (x y : Bool) → eqb v a ≡ x → eqb v b ≡ y → T (x || y) → v < 256 ^ 2
-    go true y e f u = let g = eqb-true v a e in omega arith
-    go false true e f u = let g = eqb-true v b f in omega arith
-    go false false e f u = absurd u
-
 -- the fields, each from what its bytes are read as
 fields_made : (m : Message) (event detection reference heading validity : ℕ) (position : Position)
     → event ≡ m.event → detection ≡ m.detection → reference ≡ m.reference → position ≡ m.position
@@ -85,13 +76,15 @@ pub fields_again : (m : Message) → T (admits m) → message_of (encode m) ≡ 
 unfolding message_of encode bytes_at bytes_of
 fields_again m t =
     let a = admitted m t in
+    let on = validity_below m.warning true in
+    let off = validity_below m.warning false in
     fields_made m _ _ _ _ _ _
     (little-bytes_of 4 m.event (omega (arith, a.event_high)))
     (little-bytes_of 4 m.detection (omega (arith, a.detection, a.reference)))
     (little-bytes_of 4 m.reference (omega (arith, a.reference)))
     (position_again m.position a.position)
     (little-bytes_of 2 m.heading (omega (arith, a.heading)))
-    (little-bytes_of 2 m.validity (either_small m.validity (validity_of m.warning true) (validity_of m.warning false) (validity_below m.warning true) (validity_below m.warning false) a.validity))
+    (little-bytes_of 2 m.validity (one_of (λ v. v < 256 ^ 2) m.validity (validity_of m.warning true) (validity_of m.warning false) (omega arith) (omega arith) a.validity))
 
 derived_again : (m : Message) → derived_fit (encode m) ≡ true
 unfolding derived_fit encode all_hold

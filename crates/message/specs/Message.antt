@@ -7,7 +7,7 @@ use Rattle.wire.specs.Words.{word, bytes_of}
 use Rattle.wire.specs.Tests.{all_hold}
 use Rattle.wire.specs.declared.Refusal.{Refusal}
 use Rattle.wire.specs.Memory.{memory}
-use Rattle.wire.specs.Outcome.{check, first_fault, Outcome, accepted, outcome, answered}
+use Rattle.wire.specs.Outcome.{Check, check, first_fault, Outcome, accepted, outcome, answered}
 use Rattle.warnings.specs.Warnings.{new, cancel, warning_count, row_of, validity_of, direction_of}
 use Rattle.sample.specs.Sample.{beyond}
 use Rattle.message.specs.declared.Message.{Message}
@@ -89,14 +89,11 @@ unfoldable pub admits : Message → Bool
 admits m = all_hold (field_tests m)
 
 -- "the message reader by 13, 14"
+abbrev pub message_checks : List ℕ → List Check
+message_checks s = check 13 (not (eqb (length s) 32)) ∷ check 14 (not (derived_fit s && admits (message_of s))) ∷ []
+
 unfoldable pub message_read : List ℕ → Outcome Message
-message_read s =
-    outcome
-    (first_fault
-    (check 13 (not (eqb (length s) 32))
-    ∷ check 14 (not (derived_fit s && admits (message_of s)))
-    ∷ []))
-    (message_of s)
+message_read s = outcome (first_fault (message_checks s)) (message_of s)
 
 -- "the writer (32 bytes of output) by 2, 14": the number of the first failing check with n bytes of output
 unfoldable pub write_fault : Message → ℕ → ℕ

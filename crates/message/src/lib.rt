@@ -9,7 +9,7 @@ use warnings::{CANCEL, NEW, WARNINGS};
 use wire::{Refusal, Word};
 
 // The record's own numbers; sub cause, cause and direction follow from the warning and the road type.
-#[derive(Clone, Copy)]
+#[derive(Clone, Copy, Default)]
 pub struct Message {
     pub kind: u8,
     pub warning: u8,

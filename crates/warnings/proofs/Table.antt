@@ -92,6 +92,12 @@ unfolding validity_of row_of
 validity_below w true = ltb→lt _ _ (any_row (λ r. ltb r.validityon 256) tt tt w)
 validity_below w false = ltb→lt _ _ (any_row (λ r. ltb r.validityoff 256) tt tt w)
 
+-- every warning's validity is above 0
+pub validity_above : (w : ℕ) (ignition : Bool) → 1 ≤ w → w ≤ warning_count → 0 < validity_of w ignition
+unfolding validity_of row_of
+validity_above w true low high = ltb→lt _ _ (each_passes (λ k. ltb 0 (row_of k).validityon) tt w low high)
+validity_above w false low high = ltb→lt _ _ (each_passes (λ k. ltb 0 (row_of k).validityoff) tt w low high)
+
 -- ---- the warnings by rank
 
 -- the ranks fall strictly along the list, and the first is below r

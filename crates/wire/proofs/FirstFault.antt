@@ -74,6 +74,12 @@ append_failing (c ∷ cs) ds e = go c.fails e (append_failing cs ds)
     go true e next = refl
     go false e next = next e
 
+-- checks behind the same ones, with the same first failing check
+pub append_same : (cs ds es : List Check) → first_fault ds ≡ first_fault es → first_fault (cs ++ ds) ≡ first_fault (cs ++ es)
+unfolding first_fault
+append_same [] ds es h = h
+append_same (c ∷ cs) ds es h = ap (cond c.fails c.number) (append_same cs ds es h)
+
 -- no check of both fails: none of either does
 pub clear_append : (cs ds : List Check) → Numbered cs → first_fault (cs ++ ds) ≡ 0 → (first_fault cs ≡ 0) × (first_fault ds ≡ 0)
 unfolding first_fault
@@ -120,6 +126,10 @@ answer_made (c ∷ cs) value h = go c.fails (answer_made cs value h.1)
 pub fault_passed : {A : Type 0} (r : Result A Refusal) (e : Refusal) → IsErrAnd r (λ x. x ≡ e) → fault_of r ≡ number_of e
 fault_passed (Ok x) e h = absurd h
 fault_passed (Err f) e h = ap number_of h
+
+-- two answers that refuse alike refuse for one reason
+pub same_error : {A : Type 0} (e f : Refusal) → ◌≡◌ {A = Result A Refusal} (Err e) (Err f) → e ≡ f
+same_error e f h = cc
 
 pub is_passed : {A : Type 0} (r : Result A Refusal) (e : Refusal) → IsErrAnd r (λ x. x ≡ e) → Err e ≡ r
 is_passed (Ok x) e h = absurd h

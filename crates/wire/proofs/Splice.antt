@@ -1,12 +1,12 @@
 -- The laws of `splice` and `overlay`: what lent memory holds after bytes were copied into it.
 -- Assumes nothing.
-use mathlib.Core.Path.{◌≡◌, sym, ap, ◌∙◌}
+use mathlib.Core.Path.{◌≡◌, refl, sym, ap, ◌∙◌}
 use mathlib.Core.List.{List, [], ◌++◌, append_assoc, append-nil}
 use Prim.Native.Nat.{ℕ, ◌+◌, ◌≤◌, ◌<◌}
 use native.Mathlib.Nat.{add-zero, zero-add, le_refl, add_assoc}
 use native.Mathlib.Omega.{arith}
 use borrow.Author.Tests.{le-leb, lt-leb}
-use lib.ListN.{length, take, drop, take-append-drop, length-append}
+use lib.ListN.{length, take, drop, take-append-drop, length-append, drop_of_length-le}
 use lib.Seq.{paste, take-length, length-paste, take-paste, drop-paste, drop-drop, take-append_seam}
 use Rattle.wire.specs.Memory.{splice, overlay}
 
@@ -75,3 +75,20 @@ overlay-length bs xs h = ap length (sym (splice-overlay xs bs h)) ∙ splice-len
 pub overlay-take : (bs xs : List ℕ) → take (length bs) (overlay bs xs) ≡ bs
 unfolding overlay
 overlay-take bs xs = take-append_seam bs (drop (length bs) xs)
+
+-- bytes copied behind those at the start
+pub overlay_more : (xs bs out : List ℕ) → length xs + length bs ≤ length out → splice (overlay xs out) (length xs) bs ≡ overlay (xs ++ bs) out
+overlay_more xs bs out fits =
+    let start : splice out 0 xs ≡ overlay xs out = splice-overlay out xs (omega arith) in
+    let place : 0 + length xs ≡ length xs = omega arith in
+    rw (← start, ← place) (splice_join out 0 xs bs (omega arith)) ∙ splice-overlay out (xs ++ bs) (omega (arith, length-append xs bs))
+
+-- bytes as long as the memory take its place
+pub overlay_whole : (bs xs : List ℕ) → length bs ≡ length xs → overlay bs xs ≡ bs
+unfolding overlay
+overlay_whole bs xs h =
+    let rest : drop (length bs) xs ≡ [] = drop_of_length-le xs (omega arith) in
+    rw (rest, append-nil) refl
+
+pub splice_whole : (xs bs : List ℕ) → length bs ≡ length xs → splice xs 0 bs ≡ bs
+splice_whole xs bs h = splice-overlay xs bs (omega arith) ∙ overlay_whole bs xs h

@@ -1,11 +1,12 @@
 -- A list of tests that all hold, in both directions.
 -- Assumes nothing.
-use mathlib.Core.Path.{◌≡◌, refl}
+use mathlib.Core.Path.{◌≡◌, refl, sym, subst}
 use mathlib.Core.Bool.{Bool, true, false, not, ◌&&◌, ◌||◌}
 use mathlib.Core.List.{List, [], ◌∷◌, foldl}
 use Prim.Native.Nat.{ℕ, zero, suc}
 use native.Mathlib.Omega.{arith}
-use lib.Dec.{T}
+use borrow.Author.Tests.{eqb-true}
+use lib.Dec.{T, eqb}
 use lib.Ieee.Fits.{and_i, and_l, and_r}
 use lib.ListN.{get_or}
 use Rattle.wire.specs.Tests.{all_hold}
@@ -27,6 +28,15 @@ both_true false b e = let z : ◌≡◌ {A = ℕ} 0 1 = cc in absurd (omega arit
 pub neither : (a b : Bool) → T (not (a || b)) → T (not a) × T (not b)
 neither true b t = absurd t
 neither false b t = (tt, t)
+
+-- what holds of either of two numbers holds of one that is one of them
+pub one_of : (P : ℕ → Type 0) (v a b : ℕ) → P a → P b → T (eqb v a || eqb v b) → P v
+one_of P v a b h k t = go (eqb v a) (eqb v b) refl refl t
+  where
+    go : (x y : Bool) → eqb v a ≡ x → eqb v b ≡ y → T (x || y) → P v
+    go true y e f u = subst P (sym (eqb-true v a e)) h
+    go false true e f u = subst P (sym (eqb-true v b f)) k
+    go false false e f u = absurd u
 
 -- each test, one by one
 abbrev pub Each : List Bool → Type 0

@@ -9,7 +9,7 @@ use native.Mathlib.Numerals.{add-one}
 use native.Mathlib.Omega.{arith}
 use lib.ListN.{length, get_or, take, drop, get_or-eq_default}
 use lib.Dec.{ltb}
-use lib.Seq.{drop-cons, take_all, get_or-take}
+use lib.Seq.{drop-cons, take_all, get_or-take, get_or-drop}
 use borrow.Author.Tests.{ltb-true, ltb-false}
 use Rattle.wire.specs.Words.{little, bytes_of, bytes_at, word, Bytes}
 
@@ -71,3 +71,11 @@ bytes_at_same (suc k) s t p h = rw (h p (omega arith), bytes_at_same k s t (p + 
 -- so they are in a part that reaches beyond them
 pub bytes_at-take : (k n : ℕ) (s : List ℕ) (p : ℕ) → p + k ≤ n → bytes_at k (take n s) p ≡ bytes_at k s p
 bytes_at-take k n s p h = bytes_at_same k (take n s) s p (λ i l. get_or-take n s i 0 (omega arith))
+
+-- the k bytes of what lies behind the first n
+pub bytes_at-drop : (k n : ℕ) (s : List ℕ) (p : ℕ) → bytes_at k (drop n s) p ≡ bytes_at k s (n + p)
+unfolding bytes_at
+bytes_at-drop zero n s p = refl
+bytes_at-drop (suc k) n s p =
+    let e : n + p + 1 ≡ n + (p + 1) = omega arith in
+    rw (e, bytes_at-drop k n s (p + 1), get_or-drop n s p 0) refl

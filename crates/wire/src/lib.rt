@@ -31,6 +31,9 @@ pub enum Refusal {
     EngineState = 21,
     TicksUsedUp = 22,
     TickOutOfTurn = 23,
+    TickBelowLast = 31,
+    NotNewer = 32,
+    NinthSender = 33,
 }
 
 impl From<Refusal> for u8 {

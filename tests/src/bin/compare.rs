@@ -1,11 +1,13 @@
 //! Compares a unit with the second implementation, byte for byte.
 //!
-//!     compare [library|plain] [count]
+//!     compare [library|receiver|plain] [count]
 //!
-//! `library`, the default, is the proved static library; `plain` is the
-//! benchmark's engine. `count` is the number of rounds of random days; all else
-//! is the same in a short and a long run, ten million samples for refusal 22
-//! included. Exit status 1 at the first difference, or if a rule never occurred.
+//! `library`, the default, is the proved static library; `receiver` is its
+//! receiver and lamp alone (CR 4); `plain` is the benchmark's engine. `count` is
+//! the number of rounds of random days, and of lists of a receiver's calls beyond
+//! those of every run; all else is the same in a short and a long run, ten million
+//! samples for refusal 22 included. Exit status 1 at the first difference, or if a
+//! rule never occurred.
 
 use std::process::ExitCode;
 use yoldrim_tests::comparison::Comparison;
@@ -16,7 +18,7 @@ use yoldrim_tests::reference::*;
 use yoldrim_tests::scenes::{self, stopped, Scene};
 use yoldrim_tests::tally::{self, Call, Tally};
 #[cfg(library)]
-use yoldrim_tests::{ffi, layout};
+use yoldrim_tests::{ffi, layout, receiver};
 use yoldrim_tests::{plain, printing};
 
 const DEFAULT_ROUNDS: u64 = 250;
@@ -35,13 +37,14 @@ fn main() -> ExitCode {
         "plain" => {
             compare(&mut Comparison::new(&mut plain::Engine::default(), Tally::new()), rounds)
         }
+        "receiver" => compare_receiver(rounds),
         "library" => compare_library(rounds),
         _ => usage(),
     }
 }
 
 fn usage() -> ExitCode {
-    eprintln!("usage: compare [library|plain] [count]");
+    eprintln!("usage: compare [library|receiver|plain] [count]");
     ExitCode::FAILURE
 }
 
@@ -51,8 +54,26 @@ fn compare_library(_rounds: u64) -> ExitCode {
     ExitCode::FAILURE
 }
 
+#[cfg(not(library))]
+fn compare_receiver(rounds: u64) -> ExitCode {
+    compare_library(rounds)
+}
+
+#[cfg(library)]
+fn compare_receiver(rounds: u64) -> ExitCode {
+    let comparison = receiver::trials::compare(rounds);
+    if !all_occurred(&comparison.tally) {
+        return ExitCode::FAILURE;
+    }
+    println!("compare: {} calls of receiver and lamp, 0 differences", comparison.calls);
+    ExitCode::SUCCESS
+}
+
 #[cfg(library)]
 fn compare_library(rounds: u64) -> ExitCode {
+    if compare_receiver(rounds) != ExitCode::SUCCESS {
+        return ExitCode::FAILURE;
+    }
     let mut tally = Tally::new();
     images::declare(&mut tally);
     layout::declare(&mut tally);
@@ -77,13 +98,18 @@ fn compare(comparison: &mut Comparison, rounds: u64) -> ExitCode {
     report(comparison)
 }
 
-fn report(comparison: &Comparison) -> ExitCode {
-    comparison.tally.print();
-    let never = comparison.tally.never_occurred();
+/// Prints a tally; whether each of its rows occurred.
+fn all_occurred(tally: &Tally) -> bool {
+    tally.print();
+    let never = tally.never_occurred();
     for row in &never {
         println!("NEVER OCCURRED: {row}");
     }
-    if !never.is_empty() {
+    never.is_empty()
+}
+
+fn report(comparison: &Comparison) -> ExitCode {
+    if !all_occurred(&comparison.tally) {
         return ExitCode::FAILURE;
     }
     println!(
@@ -255,46 +281,8 @@ fn writer_faults(comparison: &mut Comparison) {
     }
 }
 
-/// A good message of each kind and warning, but no Cancel of warning 4; the
-/// Cancel's detection is earlier than its reference.
-fn good_messages() -> Vec<Message> {
-    // Warning, quality, roadType, direction, stationarySince and validity.
-    let warnings = [
-        (STOPPED, 1, 0, 0, 2, 30),
-        (BROKEN_DOWN, 2, 3, 1, 1, 30),
-        (POST_CRASH, 3, ROAD_OMITTED, 0, 0, 180),
-        (UNRESPONSIVE_DRIVER, 1, 1, 1, 3, 2),
-    ];
-    let mut messages = Vec::new();
-    for kind in [kind::NEW, kind::UPDATE, kind::CANCEL] {
-        for (warning, quality, road_type, direction, stationary_since, validity) in warnings {
-            if kind == kind::CANCEL && !has_cancel(warning) {
-                continue;
-            }
-            messages.push(Message {
-                kind,
-                warning,
-                sub_cause: rules(warning).sub_cause,
-                cause: rules(warning).cause,
-                quality,
-                road_type,
-                direction,
-                stationary_since,
-                event: 17,
-                detection: 300,
-                reference: if kind == kind::CANCEL { 9_999_999 } else { 300 },
-                east: -1_000_000,
-                north: 1_000_000,
-                heading: 3_601,
-                validity,
-            });
-        }
-    }
-    messages
-}
-
 fn message_faults(comparison: &mut Comparison) {
-    for message in good_messages() {
+    for message in faults::good_messages() {
         comparison.restart("message_check, faults", SEED);
         let good = |_: &Comparison| Trial::new(&message.record(), 0);
         alone_and_in_pairs(comparison, Call::MessageCheck, good, |_| faults::of_message());
@@ -332,7 +320,7 @@ fn flipped_bits(comparison: &mut Comparison) {
         }
     }
     comparison.restart("flipped bits of a record", SEED);
-    for message in good_messages() {
+    for message in faults::good_messages() {
         for bit in 0..MESSAGE_BYTES * 8 {
             comparison.call(Call::MessageCheck, &flipped(&message.record(), bit), 0);
         }
@@ -355,7 +343,7 @@ fn junk(comparison: &mut Comparison) {
     }
     let changes = faults::of_message();
     for _ in 0..100_000 {
-        let message = comparison.random.pick(&good_messages());
+        let message = comparison.random.pick(&faults::good_messages());
         let some: Vec<Change> = (0..3).map(|_| comparison.random.pick(&changes)).collect();
         let trial = Trial::new(&message.record(), 0).changed(&some, false);
         comparison.call(Call::MessageCheck, &trial.input, 0);

@@ -1,22 +1,22 @@
-use Rattle.std.proofs.Common.{sym}
+use Rattle.std.proofs.Common.{sym, ap, ◌∙◌}
 use Rattle.wire.specs.Outcome.{answered}
 use Rattle.wire.proofs.FirstFault.{refused_number}
 use Rattle.calls.proofs.CallFaults.{block_lent}
 use Rattle.calls.specs.Calls.{lent, call_fault}
 use Rattle.calls.proofs.CallCounts.{call_count}
-use Rattle.capi.specs.Imaged.{image_fault}
+use Rattle.capi.specs.Imaged.{image_fault, image_kept}
 use Rattle.capi.proofs.Numbers.{again}
 use Rattle.capi.proofs.ImageCalls.{lent_accepted, image_refused, image_meets}
 use Rattle.capi.proofs.yoldrim_block.Goals as goal
 
 pub finish-requires : goal.finish-requires
-finish-requires c = call_count _ _ _ c.block.ensures.answer
+finish-requires c = call_count _ _ _ c.block-called.ensures.answer
 
 pub returns-in-Ok : goal.returns-in-Ok
 unfolding answered
 returns-in-Ok c =
     let a = lent_accepted _ _ _ _ _ _ c.in-Ok.ensures in
-    image_meets _ _ a.0 _ a.1 _ _ _ _ _ (record { sfits = c.finish.type_inv }) c.finish.ensures c.block.ensures
+    image_meets _ _ a.0 _ a.1 _ _ _ _ _ (record { sfits = c.finish.type_inv }) (c.finish.ensures.0, c.finish.ensures.1 ∙ ap (λ b. image_kept (answered c.block-called.result.answer) b c.args.memory.now) c.save.ensures.image) c.block-called.ensures
 
 pub returns-in-Err : goal.returns-in-Err
 unfolding answered image_fault call_fault lent

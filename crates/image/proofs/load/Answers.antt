@@ -1,14 +1,10 @@
-use Rattle.std.proofs.Common.{◌≡◌, length, Result, Err}
+use Rattle.std.proofs.Common.{◌≡◌, length}
 use Rattle.std.specs.Array.{IsWholeChunk}
-use Rattle.wire.specs.declared.Refusal.{Refusal}
 use Rattle.wire.specs.declared.Refusal.TheVariants.{EngineState}
-use Rattle.wire.proofs.FirstFault.{is_passed}
+use Rattle.wire.proofs.FirstFault.{same_error, is_passed}
 use Rattle.image.specs.Image.{image_size}
 use Rattle.image.proofs.Loaded.{refused_length, refused_other, loaded}
 use Rattle.image.proofs.load.Goals as goal
-
-same_error : {A : Type 0} (e f : Refusal) → ◌≡◌ {A = Result A Refusal} (Err e) (Err f) → e ≡ f
-same_error e f h = cc
 
 pub returns-in_err-image : goal.returns-in_err-image
 returns-in_err-image c =

@@ -1,0 +1,3 @@
+pub mod Lamp
+pub mod Examples
+pub mod Promise

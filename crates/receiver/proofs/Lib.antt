@@ -1,0 +1,16 @@
+pub mod Sides
+pub mod Entries
+pub mod Turns
+pub mod Checked
+pub mod CallsMeet
+pub mod StopsHold
+pub mod Filters
+pub mod Lapsing
+pub mod HoldsThem
+pub mod DemandHolds
+pub mod Latest
+pub mod HeldInWords
+pub mod RefusedInWords
+pub mod WrittenInWords
+pub mod WordsHold
+pub mod EmptyMeets
