@@ -1,7 +1,8 @@
 /* Yoldrim: the decision routine of a stationary vehicle warning unit, called from C.
  *
- * Every piece of memory goes as a pointer and then its length in bytes; one number that is written, as a pointer alone. A pointer is not null, not even with the length 0, and the
- * pieces that one call is given do not overlap. No call keeps a pointer, allocates memory, or stops the program.
+ * Every piece of memory goes as a pointer and then its length in bytes; one number that is written, as a pointer alone. A pointer is
+ * not null, not even with the length 0, and the pieces that one call is given do not overlap. No call keeps a pointer, allocates memory,
+ * or stops the program.
  *
  * Every call answers an int32_t: not negative, the count or the answer that its comment names; negative, minus the number of a refusal,
  * those of document 01, "What is turned down", and 31 to 33 of a receiver (CR 4). A refused call leaves all lent memory as it was. An
