@@ -15,6 +15,9 @@
  * After CR 2 the vehicle stays still, or not still, through up to 5 samples in a row without a reading (speed 16,383). From the sixth on
  * it is not still until a reading comes, nor is it before the first reading. A message may come with a sample that has no reading.
  *
+ * After CR 5 a warning 1, 2 or 3 is cancelled by distance more than 5,000 dm from the position in its event's New. An Update carries its
+ * own sample's position, as before, and moves nothing that is measured from.
+ *
  * Warning 4 has News and Updates alone, an Update after every 5 ticks, and no Cancel: it ends without a message once the bit clears or
  * the vehicle is still, or by a New of warning 3. A caller that shows what stands looks after each call at bytes 13 and 17 of the engine
  * (below), whether a warning stands and which; or it sees, 5 ticks after the last New or Update of warning 4, that no message has come.
@@ -54,34 +57,36 @@ extern "C" {
  *   16-47    the standing warning's last New or Update, as a message; zeros while none stands
  *   48-51    samples taken
  *   52-55    the bits of the filter's value, an IEEE 754 binary32 number; 0 without a reading yet
- *   56-59    ticks of the detection cycle of warning 1
- *   60-63    ticks of the detection cycle of warning 2
- *   64-67    tick of the last New
- *   68-71    first tick that the last New counted
- *   72-75    tick of the last Cancel of warning 3
- *   76-79    number of News
- *   80-83    ticks stationary up to now
- *   84-87    ticks moving up to now
- *   88-91    ticks in park up to now
- *   92-95    ticks in idle up to now
- *   96-99    ticks with the parking brake on up to now
- *   100-103  ticks with the belt off up to now
- *   104-107  ticks with ignition off up to now
- *   108-111  ticks with a door open up to now
- *   112-115  ticks with the boot open up to now
- *   116-119  ticks with the bonnet open up to now
- *   120-123  ticks without eCall up to now
- *   124-127  ticks without a low severity crash or pedestrian collision up to now
- *   128-131  ticks without a high severity crash up to now
- *   132-135  ticks without a reading of the speed up to now
+ *   56-59    east in the last New, signed, in decimetres; 0 before the first
+ *   60-63    north in the last New, likewise
+ *   64-67    ticks of the detection cycle of warning 1
+ *   68-71    ticks of the detection cycle of warning 2
+ *   72-75    tick of the last New
+ *   76-79    first tick that the last New counted
+ *   80-83    tick of the last Cancel of warning 3
+ *   84-87    number of News
+ *   88-91    ticks stationary up to now
+ *   92-95    ticks moving up to now
+ *   96-99    ticks in park up to now
+ *   100-103  ticks in idle up to now
+ *   104-107  ticks with the parking brake on up to now
+ *   108-111  ticks with the belt off up to now
+ *   112-115  ticks with ignition off up to now
+ *   116-119  ticks with a door open up to now
+ *   120-123  ticks with the boot open up to now
+ *   124-127  ticks with the bonnet open up to now
+ *   128-131  ticks without eCall up to now
+ *   132-135  ticks without a low severity crash or pedestrian collision up to now
+ *   136-139  ticks without a high severity crash up to now
+ *   140-143  ticks without a reading of the speed up to now
  * A fresh image has 0 in every byte but the first. Memory that is no image is refused with 21: of another length or layout, with a
  * number outside the ranges of refusal 21, or with a byte that no engine's image has in its place. */
-#define YOLDRIM_ENGINE_BYTES 136
+#define YOLDRIM_ENGINE_BYTES 144
 
 /* The layout's number, the first byte of every image. An image may outlive the software that saved it: every change of the engine's
  * state raises this number, and an image of another layout is refused with 21 and left as it was, never misread. A unit whose kept
  * image is refused begins fresh. */
-#define YOLDRIM_ENGINE_LAYOUT 2
+#define YOLDRIM_ENGINE_LAYOUT 3
 
 /* Makes the image of an engine that has taken no sample. Answers 0; -21 for another length than YOLDRIM_ENGINE_BYTES, also a longer
  * one. */

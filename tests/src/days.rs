@@ -1,11 +1,14 @@
 //! Days of driving made from a seed: drives, stands, towing, lost readings,
-//! switches, gear moves, doors, crashes and an active risk mitigation function.
-//! A day is an endless source of samples; whoever uses it takes as many as
-//! wanted.
+//! switches, gear moves, doors, crashes, an active risk mitigation function, and
+//! days on a flatbed. A day is an endless source of samples; whoever uses it takes
+//! as many as wanted.
 
 use crate::random::Random;
 use crate::reference::{gear, happening, switch, Sample, FARTHEST, NO_READING, UNKNOWN_HEADING};
 use crate::scenes::stopped;
+use flatbed::Leg;
+
+mod flatbed;
 
 /// Spans at and around which something in document 01 turns.
 const TURNS: [i64; 12] = [1, 2, 30, 31, 50, 100, 150, 200, 250, 300, 450, 600];
@@ -57,6 +60,8 @@ pub struct Style {
     unlit: u64,
     /// Whether drives last as long as in traffic.
     traffic: bool,
+    /// Whether the car is carried on a flatbed again and again (CR 5).
+    flatbed: bool,
 }
 
 /// Everything happens, and soon after one another.
@@ -69,6 +74,7 @@ pub const TRAINING: Style = Style {
     lossy: 4,
     unlit: 6,
     traffic: false,
+    flatbed: false,
 };
 /// Few switches move, so that countdowns run to their end.
 pub const QUIET: Style =
@@ -86,7 +92,11 @@ pub const TRAFFIC: Style = Style {
     lossy: 40,
     unlit: 2,
     traffic: true,
+    flatbed: false,
 };
+/// On a flatbed, and seldom anything else.
+pub const FLATBED: Style =
+    Style { busy: 6, crash: 8, mitigation: 8, lossy: 8, flatbed: true, ..TRAINING };
 
 #[derive(Clone, Copy, PartialEq)]
 enum Motion {
@@ -95,6 +105,7 @@ enum Motion {
     Creeping,
     Lost,
     Towed { east: i32, north: i32 },
+    Carried,
 }
 
 pub struct Day {
@@ -110,6 +121,8 @@ pub struct Day {
     /// For each switch, and at last the lever: ticks to its next move.
     moves: [Option<i64>; 9],
     planned: Vec<Planned>,
+    /// On a flatbed: what is left of the way, the next leg last.
+    way: Vec<Leg>,
 }
 
 /// Happenings or lost readings to come, or that are there: from which to which
@@ -139,6 +152,7 @@ impl Day {
             left: 0,
             moves: [None; 9],
             planned: Vec::new(),
+            way: Vec::new(),
         };
         day.begin_piece();
         day
@@ -171,6 +185,9 @@ impl Day {
     }
 
     fn begin_piece(&mut self) {
+        if self.style.flatbed {
+            return self.begin_flatbed_piece();
+        }
         self.motion = self.next_motion();
         self.left = self.span();
         self.steady = self.random.one_in(self.style.long_stand);
@@ -233,7 +250,9 @@ impl Day {
 
     fn first_speed(&mut self) -> u16 {
         match self.motion {
-            Motion::Standing | Motion::Towed { .. } => self.random.pick(&[0, 0, 0, 0, 3, 8]),
+            Motion::Standing | Motion::Towed { .. } | Motion::Carried => {
+                self.random.pick(&[0, 0, 0, 0, 3, 8])
+            }
             Motion::Driving => self.random.between(9, 3_500) as u16,
             Motion::Creeping => 9,
             Motion::Lost => NO_READING,
@@ -291,6 +310,7 @@ impl Day {
             Motion::Standing | Motion::Lost => self.now_and_then_a_bump(),
             Motion::Creeping => self.now.speed = self.random.between(6, 10) as u16,
             Motion::Towed { east, north } => self.shift(east, north),
+            Motion::Carried => self.carry(),
             Motion::Driving => self.drive(),
         }
     }

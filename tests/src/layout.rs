@@ -16,12 +16,19 @@ const SIZE_NAME: &str = "YOLDRIM_ENGINE_BYTES";
 const LAYOUT_NAME: &str = "YOLDRIM_ENGINE_LAYOUT";
 const AS_THE_TABLE: &str = "image with each number where the header's table says";
 const UNRESPONSIVE: &str = "image with warning 4 standing, as the header's table says";
+const CARRIED: &str = "image with an Update elsewhere than its New, as the header's table says";
 const OTHER_LAYOUT: &str = "image of another layout refused 21";
+const AT_THE_END: &str = "image with a coordinate of the last New at 1,000,000 dm taken";
+const BEYOND: &str = "image with a coordinate of the last New beyond 1,000,000 dm refused 21";
+
+/// The rows of the position that the 5,000 dm count from (CR 5).
+const EAST: &str = "east in the last New";
+const NORTH: &str = "north in the last New";
 
 pub fn declare(tally: &mut Tally) {
-    tally.declare(AS_THE_TABLE);
-    tally.declare(UNRESPONSIVE);
-    tally.declare(OTHER_LAYOUT);
+    for row in [AS_THE_TABLE, UNRESPONSIVE, CARRIED, OTHER_LAYOUT, AT_THE_END, BEYOND] {
+        tally.declare(row);
+    }
 }
 
 pub fn check(comparison: &mut Comparison) {
@@ -32,9 +39,12 @@ pub fn check(comparison: &mut Comparison) {
         Err(what) => comparison.fail(&what),
     };
     fresh_image(comparison, &table);
+    coordinates_at_the_ends(comparison, &table);
     let mut seen = Vec::new();
     stop_by_hand(comparison, &table, &mut seen);
+    coordinates_at_the_ends(comparison, &table);
     other_layouts(comparison, &table);
+    carriage_by_hand(comparison, &table, &mut seen);
     days_in_the_table(comparison, &table, &mut seen);
     rows_told_apart(comparison, &table, &seen);
 }
@@ -143,13 +153,11 @@ fn kept(history: &History, layout: u8) -> Vec<(&'static str, Vec<u8>)> {
     let i = history.samples().len() - 1;
     let now = &history.samples()[i];
     let cycles = [history.cycle(STOPPED, i), history.cycle(BROKEN_DOWN, i)];
-    let last = |kind, warning: Option<u8>| {
-        let meant = |m: &&Message| m.kind == kind && warning.is_none_or(|w| m.warning == w);
-        history.messages().iter().rev().find(meant).map_or(0, |m| m.reference)
-    };
-    let new = last(kind::NEW, None);
+    let cancel_of_3 = |m: &&Message| m.kind == kind::CANCEL && m.warning == POST_CRASH;
+    let cancel_of_3 = history.messages().iter().rev().find(cancel_of_3);
+    let new = last_new(history);
     let news = history.messages().iter().filter(|m| m.kind == kind::NEW).count() as u32;
-    let counted = if news == 0 { 0 } else { history.first_counted(new as usize) as u32 };
+    let counted = new.map_or(0, |m| history.first_counted(m.reference as usize) as u32);
     let standing = standing(history);
     let mut kept = vec![
         (LAYOUT_NAME, vec![layout]),
@@ -166,9 +174,11 @@ fn kept(history: &History, layout: u8) -> Vec<(&'static str, Vec<u8>)> {
         ("the bits of the filter's value", history.filter(i).map_or(0, f32::to_bits)),
         ("ticks of the detection cycle of warning 1", ticks(cycles[0], i)),
         ("ticks of the detection cycle of warning 2", ticks(cycles[1], i)),
-        ("tick of the last New", new),
+        (EAST, new.map_or(0, |m| m.east as u32)),
+        (NORTH, new.map_or(0, |m| m.north as u32)),
+        ("tick of the last New", new.map_or(0, |m| m.reference)),
         ("first tick that the last New counted", counted),
-        ("tick of the last Cancel of warning 3", last(kind::CANCEL, Some(POST_CRASH))),
+        ("tick of the last Cancel of warning 3", cancel_of_3.map_or(0, |m| m.reference)),
         ("number of News", news),
     ];
     kept.extend(numbers.iter().chain(&runs(history)).map(|(words, n)| (*words, number(*n))));
@@ -177,6 +187,10 @@ fn kept(history: &History, layout: u8) -> Vec<(&'static str, Vec<u8>)> {
 
 fn number(n: u32) -> Vec<u8> {
     n.to_le_bytes().to_vec()
+}
+
+fn last_new(history: &History) -> Option<&Message> {
+    history.messages().iter().rev().find(|m| m.kind == kind::NEW)
 }
 
 /// The last New or Update while a warning stands.
@@ -242,9 +256,13 @@ fn as_the_table(comparison: &mut Comparison, table: &Table, seen: &mut Seen) {
     }
     seen.push(image);
     comparison.tally.count(AS_THE_TABLE);
-    if standing(&comparison.reference.history).is_some_and(|m| m.warning == UNRESPONSIVE_DRIVER) {
-        comparison.tally.count(UNRESPONSIVE);
-    }
+    let Some(&last) = standing(&comparison.reference.history) else {
+        return;
+    };
+    let new = last_new(&comparison.reference.history).expect("it stands by a New");
+    let elsewhere = (last.east, last.north) != (new.east, new.north);
+    comparison.tally.count_if(last.warning == UNRESPONSIVE_DRIVER, UNRESPONSIVE);
+    comparison.tally.count_if(elsewhere, CARRIED);
 }
 
 /// "A fresh image has 0 in every byte but the first."
@@ -257,12 +275,13 @@ fn fresh_image(comparison: &Comparison, table: &Table) {
 }
 
 /// A stop in park, the first sample and the last 4 without a reading: still from
-/// tick 1, so warning 1 has its New at tick 201 and stands. The numbers are by
-/// hand.
+/// tick 1, so warning 1 has its New at tick 201 and stands. At each tick it is 7 dm
+/// farther west and 2 farther north. The numbers are by hand.
 fn stop_by_hand(comparison: &mut Comparison, table: &Table, seen: &mut Seen) {
     for tick in 0..=260 {
         let speed = if (1..257).contains(&tick) { 0 } else { NO_READING };
-        let sample = Sample { speed, gear: gear::PARK, ..stopped(tick) };
+        let (east, north) = (-7 * tick as i32, 2 * tick as i32);
+        let sample = Sample { speed, gear: gear::PARK, east, north, ..stopped(tick) };
         comparison.call(Call::Sample, &sample.to_bytes(), SAMPLE_OUTPUT);
         if tick == 0 {
             as_the_table(comparison, table, seen);
@@ -271,6 +290,8 @@ fn stop_by_hand(comparison: &mut Comparison, table: &Table, seen: &mut Seen) {
     let image = comparison.image();
     let numbers = [
         ("samples taken", 261),
+        (EAST, -1_407),
+        (NORTH, 402),
         ("tick of the last New", 201),
         ("first tick that the last New counted", 51),
         ("number of News", 1),
@@ -280,7 +301,7 @@ fn stop_by_hand(comparison: &mut Comparison, table: &Table, seen: &mut Seen) {
         ("ticks without a reading", 4),
     ];
     for (words, n) in numbers {
-        if let Err(what) = table.holds(image, words, &number(n)) {
+        if let Err(what) = table.holds(image, words, &number(n as u32)) {
             comparison.fail(&what);
         }
     }
@@ -295,19 +316,10 @@ fn stop_by_hand(comparison: &mut Comparison, table: &Table, seen: &mut Seen) {
 /// "An image of another layout is refused with 21 and left as it was": the
 /// present engine's, with every other first byte.
 fn other_layouts(comparison: &mut Comparison, table: &Table) {
-    let sample = stopped(comparison.taken() as u32).to_bytes();
-    let block = block_of(&sample);
     for first in (0..=u8::MAX).filter(|&first| first != table.layout) {
         let mut image = comparison.image().to_vec();
         image[0] = first;
-        let before = image.clone();
-        let mut out = [first; BLOCK_OUTPUT];
-        let answers =
-            [ffi::sample(&mut image, &sample, &mut out), ffi::block(&mut image, &block, &mut out)];
-        if answers != [-21; 2] || image != before || out != [first; BLOCK_OUTPUT] {
-            comparison.fail(&format!("an image of layout {first}: answers {answers:?}"));
-        }
-        comparison.calls += 2;
+        refused_21(comparison, &image, &format!("an image of layout {first}"));
         comparison.tally.count(OTHER_LAYOUT);
     }
     let mut zeros = [0; ENGINE_BYTES];
@@ -317,16 +329,104 @@ fn other_layouts(comparison: &mut Comparison, table: &Table) {
     }
 }
 
+/// A coordinate of the last New beyond 1,000,000 dm is outside the ranges of refusal
+/// 21; one of exactly as much is not. The rest of the image is the present engine's.
+fn coordinates_at_the_ends(comparison: &mut Comparison, table: &Table) {
+    const BEYOND_THE_ENDS: [i32; 4] = [FARTHEST + 1, -FARTHEST - 1, i32::MAX, i32::MIN];
+    for words in [EAST, NORTH] {
+        let row = match table.row(words) {
+            Ok(row) => row.first..=row.last,
+            Err(what) => comparison.fail(&what),
+        };
+        let with = |comparison: &Comparison, coordinate: i32| {
+            let mut image = comparison.image().to_vec();
+            image[row.clone()].copy_from_slice(&coordinate.to_le_bytes());
+            (image, format!("an image with {coordinate} in the row \"{words}\""))
+        };
+        for coordinate in [FARTHEST, -FARTHEST] {
+            let (image, name) = with(comparison, coordinate);
+            accepted(comparison, &image, &name);
+            comparison.tally.count(AT_THE_END);
+        }
+        for coordinate in BEYOND_THE_ENDS {
+            let (image, name) = with(comparison, coordinate);
+            refused_21(comparison, &image, &name);
+            comparison.tally.count(BEYOND);
+        }
+    }
+}
+
+/// Answers of both calls on this image with a sample that is due, and whether image
+/// and output are as they were.
+fn answers(comparison: &mut Comparison, image: &[u8]) -> ([i32; 2], bool) {
+    let sample = stopped(comparison.taken() as u32).to_bytes();
+    let mut out = [0; BLOCK_OUTPUT];
+    comparison.random.fill(&mut out);
+    let mut images = [image.to_vec(), image.to_vec()];
+    let mut outs = [out; 2];
+    let answers = [
+        ffi::sample(&mut images[0], &sample, &mut outs[0]),
+        ffi::block(&mut images[1], &block_of(&sample), &mut outs[1]),
+    ];
+    comparison.calls += 2;
+    (answers, images.iter().all(|after| after == image) && outs == [out; 2])
+}
+
+fn refused_21(comparison: &mut Comparison, image: &[u8], name: &str) {
+    let (answers, untouched) = answers(comparison, image);
+    if answers != [-21; 2] || !untouched {
+        comparison.fail(&format!("{name}: answers {answers:?}, untouched: {untouched}"));
+    }
+}
+
+fn accepted(comparison: &mut Comparison, image: &[u8], name: &str) {
+    let (answers, _) = answers(comparison, image);
+    if !answers.iter().all(|answer| (0..=2).contains(answer)) {
+        comparison.fail(&format!("{name}: answers {answers:?}"));
+    }
+}
+
+/// A stop in park that is carried (CR 5): a New at 200, an Update at 350 exactly 5,000
+/// dm away, a Cancel at 361 a decimetre farther, and the next New at 562. At each tick
+/// the image has the position in the last New, by hand.
+fn carriage_by_hand(comparison: &mut Comparison, table: &Table, seen: &mut Seen) {
+    comparison.restart("the header's table on a flatbed", 1);
+    for tick in 0..=562 {
+        let (east, north) = match tick {
+            0..=200 => (-70, 300),
+            201..=360 => (-3_070, 4_300),
+            _ => (-3_071, 4_300),
+        };
+        let sample = Sample { gear: gear::PARK, east, north, ..stopped(tick) };
+        comparison.call(Call::Sample, &sample.to_bytes(), SAMPLE_OUTPUT);
+        let (east, north) = match tick {
+            0..=199 => (0, 0),
+            200..=561 => (-70, 300),
+            _ => (-3_071, 4_300),
+        };
+        for (words, n) in [(EAST, east), (NORTH, north)] {
+            if let Err(what) = table.holds(comparison.image(), words, &number(n as u32)) {
+                comparison.fail(&format!("tick {tick}: {what}"));
+            }
+        }
+        if [199, 200, 350, 361, 562].contains(&tick) {
+            as_the_table(comparison, table, seen);
+        }
+    }
+}
+
 /// Random days, their images held to the table now and then.
 fn days_in_the_table(comparison: &mut Comparison, table: &Table, seen: &mut Seen) {
-    for seed in 1..=10 {
-        comparison.restart("the header's table on a random day", seed);
-        let mut day = Day::new(seed, days::TRAINING);
-        for tick in 0..4_000 {
-            let sample = Sample { tick, ..day.next_sample() };
-            comparison.call(Call::Sample, &sample.to_bytes(), SAMPLE_OUTPUT);
-            if tick % 50 == 0 {
-                as_the_table(comparison, table, seen);
+    for (style, seeds) in [(days::TRAINING, 1..=10), (days::FLATBED, 11..=14)] {
+        for seed in seeds {
+            comparison.restart("the header's table on a random day", seed);
+            let mut day = Day::new(seed, style);
+            for tick in 0..4_000 {
+                let sample = Sample { tick, ..day.next_sample() };
+                comparison.call(Call::Sample, &sample.to_bytes(), SAMPLE_OUTPUT);
+                if tick % 50 == 0 {
+                    as_the_table(comparison, table, seen);
+                }
             }
         }
     }

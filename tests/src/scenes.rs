@@ -5,6 +5,8 @@
 use crate::reference::{gear, happening, switch, Sample, NO_READING};
 use std::ops::Range;
 
+mod flatbed;
+
 pub struct Scene {
     pub name: &'static str,
     pub samples: Vec<Sample>,
@@ -73,13 +75,14 @@ pub fn all() -> Vec<Scene> {
     scenes.extend(losses_and_unresponsive_driver());
     scenes.extend(overruled_by_unresponsive_driver());
     scenes.extend(unresponsive_driver_and_crashes());
+    scenes.extend(flatbed::all());
     scenes
 }
 
 /// Bench stops (i) to (x).
 pub fn bench_stops() -> Vec<Scene> {
     use switch::*;
-    vec![
+    let mut stops = vec![
         scene("stop (i)", 600, |_| (), &["300 N 1 1 1", "450 U 1 1 1", "600 U 1 1 1"]),
         scene("stop (ii), park", 349, |s| s.gear = gear::PARK, &["200 N 1 2 1"]),
         scene(
@@ -108,24 +111,6 @@ pub fn bench_stops() -> Vec<Scene> {
             &["300 N 1 1 1", "360 C 1 1 1"],
         ),
         scene(
-            "stop (vii), 5,000 dm east from 301",
-            449,
-            |s| s.east = if s.tick >= 301 { 5_000 } else { 0 },
-            &["300 N 1 1 1"],
-        ),
-        scene(
-            "stop (vii), 5,001 dm east from 301",
-            449,
-            |s| s.east = if s.tick >= 301 { 5_001 } else { 0 },
-            &["300 N 1 1 1", "301 C 1 1 1"],
-        ),
-        scene(
-            "stop (vii), a decimetre north of 5,000 dm east",
-            449,
-            |s| (s.east, s.north) = if s.tick >= 301 { (-5_000, 1) } else { (0, 0) },
-            &["300 N 1 1 1", "301 C 1 1 1"],
-        ),
-        scene(
             "stop (viii), ignition off from 320",
             619,
             |s| set(s, IGNITION, s.tick < 320),
@@ -139,6 +124,47 @@ pub fn bench_stops() -> Vec<Scene> {
         ),
         scene("stop (x), still first at 160", 400, |s| ecall_at_10(s, 151), &["160 N 3 1 1"]),
         scene("stop (x), still first at 161", 460, |s| ecall_at_10(s, 152), &[]),
+    ];
+    stops.extend(bench_stop_vii());
+    stops
+}
+
+/// Bench stop (vii), which by CR 5 "gains a case: 3,000 dm further at each of two
+/// updates cancels at the second".
+fn bench_stop_vii() -> Vec<Scene> {
+    vec![
+        scene(
+            "stop (vii), 5,000 dm east from 301",
+            449,
+            |s| s.east = if s.tick >= 301 { 5_000 } else { 0 },
+            &["300 N 1 1 1"],
+        ),
+        scene(
+            "stop (vii), 5,001 dm east from 301",
+            449,
+            |s| s.east = if s.tick >= 301 { 5_001 } else { 0 },
+            &["300 N 1 1 1", "301 C 1 1 1"],
+        ),
+        scene(
+            "stop (vii), a decimetre north of 5,000 dm west",
+            449,
+            |s| (s.east, s.north) = if s.tick >= 301 { (-5_000, 1) } else { (0, 0) },
+            &["300 N 1 1 1", "301 C 1 1 1"],
+        ),
+        carried(
+            "stop (vii), 3,000 dm further at each of two Updates",
+            749,
+            unchanged,
+            [(450, 3_000, 0), (600, 6_000, 0)],
+            &["300 N 1 1 1", "450 U 1 1 1", "600 C 1 1 1"],
+        ),
+        carried(
+            "stop (vii), 3,000 dm further from 301, and at the second Update",
+            749,
+            unchanged,
+            [(301, 3_000, 0), (600, 6_000, 0)],
+            &["300 N 1 1 1", "450 U 1 1 1", "600 C 1 1 1"],
+        ),
     ]
 }
 
@@ -586,6 +612,24 @@ fn losing<const N: usize>(
     let change = |s: &mut Sample| {
         change(s);
         lost.iter().for_each(|ticks| lose(s, ticks.clone()));
+    };
+    scene(name, last, change, lines)
+}
+
+/// A stop, otherwise changed so, at each of these places from its tick on: the
+/// tick, east and north.
+fn carried<const N: usize>(
+    name: &'static str,
+    last: u32,
+    change: impl Fn(&mut Sample),
+    places: [(u32, i32, i32); N],
+    lines: &'static [&'static str],
+) -> Scene {
+    let change = |s: &mut Sample| {
+        change(s);
+        for (_, east, north) in places.iter().filter(|(tick, ..)| *tick <= s.tick) {
+            (s.east, s.north) = (*east, *north);
+        }
     };
     scene(name, last, change, lines)
 }

@@ -74,6 +74,26 @@ const IN_COUNTDOWNS: [&str; 4] = [
     "its cycle's first tick the first reading after a loss",
 ];
 
+/// What is so at the tick of a Cancel by distance alone; the last one is where the
+/// distance that counted before CR 5, from the last New or Update, would bring none.
+const MOVED: [&str; 5] = [
+    "before its first Update",
+    "between Updates",
+    "its Update due by period",
+    "its Update due by ignition off",
+    "at most 5,000 dm from its last Update",
+];
+
+/// The side that the larger part of a distance lies to.
+const SIDES: [&str; 4] = ["east", "west", "north", "south"];
+
+/// What does not end a warning; the last one is where that other distance would.
+const STAYS: [&str; 3] = [
+    "exactly 5,000 dm from its New, before an Update",
+    "exactly 5,000 dm from its New, after an Update",
+    "more than 5,000 dm from its last Update",
+];
+
 /// The warnings that end with a Cancel.
 pub const WITH_CANCEL: [u8; 3] = [STOPPED, BROKEN_DOWN, POST_CRASH];
 
@@ -123,6 +143,7 @@ impl Tally {
         tally.declare_rules();
         tally.declare_unresponsive_driver();
         tally.declare_losses();
+        tally.declare_distances();
         tally.declare_order();
         tally.declare_fields();
         tally.declare_calls();
@@ -216,7 +237,6 @@ impl Tally {
             }
             self.declare(format!("rule 2: Cancel of {warning}, moved"));
             self.declare(format!("rule 2: Cancel of {warning} while its Update is due"));
-            self.declare(format!("no Cancel of {warning}: exactly 5,000 dm from the last"));
         }
         self.declare("no Cancel of 3: not still for 151 ticks, some before its New");
         self.declare("no Cancel of 3: hazard lights off");
@@ -257,7 +277,7 @@ impl Tally {
             "not still for 51 ticks since its New",
             "hazard lights off",
             "ignition switched off",
-            "more than 5,000 dm from the last",
+            "more than 5,000 dm from its New",
         ] {
             self.declare(format!("no effect on 4: {what}"));
         }
@@ -299,6 +319,22 @@ impl Tally {
         }
         for ticks in SINCE_TURNS {
             self.declare(format!("New or Update after {ticks} ticks of still, readings lost"));
+        }
+    }
+
+    /// What the distance from the New ends, and what it does not (CR 5).
+    fn declare_distances(&mut self) {
+        for warning in WITH_CANCEL {
+            for what in MOVED {
+                self.declare(format!("rule 2: Cancel of {warning}, moved alone: {what}"));
+            }
+            for side in SIDES {
+                let row = format!("rule 2: Cancel of {warning}, moved alone: {side}");
+                self.declare(format!("{row} after an Update"));
+            }
+            for what in STAYS {
+                self.declare(format!("no Cancel of {warning}: {what}"));
+            }
         }
     }
 
@@ -473,9 +509,7 @@ impl Tally {
         if standing == UNRESPONSIVE_DRIVER {
             self.nothing_given_of_4(history, i);
         } else if standing != NONE {
-            let exactly = history.square_moved(i) == SQUARE_TOO_FAR;
-            let row = format!("no Cancel of {standing}: exactly 5,000 dm from the last");
-            self.count_if(exactly, &row);
+            self.stays(history, standing, i);
             let again = history.still(i) && due_by_loss(history, standing, i);
             let row = format!("no Cancel of {standing}: still again where a loss has it due");
             self.count_if(again, &row);
@@ -511,7 +545,7 @@ impl Tally {
             (history.not_still_since_new(50, i), "not still for 51 ticks since its New"),
             (!history.samples()[i].on(switch::HAZARD), "hazard lights off"),
             (history.ignition_switched_off(i), "ignition switched off"),
-            (history.square_moved(i) > SQUARE_TOO_FAR, "more than 5,000 dm from the last"),
+            (history.square_moved(i) > SQUARE_TOO_FAR, "more than 5,000 dm from its New"),
         ] {
             self.count_if(occurred, &format!("no effect on 4: {what}"));
         }
@@ -676,11 +710,48 @@ impl Tally {
         let lost = causes.not_still && due_by_loss(history, standing, i);
         self.count_if(lost, &row(", not still by a loss"));
         self.count_if(history.update_causes(i).any(), &row(" while its Update is due"));
+        if causes.moved && !causes.not_still && !causes.hazard_off {
+            self.moved_alone(history, &row(", moved alone"), i);
+        }
         let after_3 = standing == POST_CRASH && history.triggers(UNRESPONSIVE_DRIVER, i);
         self.count_if(after_3, "no trigger of 4: at the tick of the Cancel of 3");
     }
 
+    /// Counts a Cancel by distance alone.
+    fn moved_alone(&mut self, history: &History, row: &str, i: usize) {
+        let last = history.last_new_or_update(i);
+        let updated = last.kind == kind::UPDATE;
+        let due = history.update_causes(i);
+        let occurred = [
+            !updated && !due.any(),
+            updated && !due.any(),
+            due.period,
+            due.ignition,
+            history.square_from(last, i) <= SQUARE_TOO_FAR,
+        ];
+        for (occurred, what) in occurred.into_iter().zip(MOVED) {
+            self.count_if(occurred, &format!("{row}: {what}"));
+        }
+        let side = side(history.standing_new(i), &history.samples()[i]);
+        self.count_if(updated, &format!("{row}: {side} after an Update"));
+    }
+
+    /// Counts what does not end a warning at a tick at which it stays.
+    fn stays(&mut self, history: &History, standing: u8, i: usize) {
+        let last = history.last_new_or_update(i);
+        let updated = last.kind == kind::UPDATE;
+        let exactly = history.square_moved(i) == SQUARE_TOO_FAR;
+        let far = history.square_from(last, i) > SQUARE_TOO_FAR;
+        let occurred = [exactly && !updated, exactly && updated, far];
+        for (_, what) in occurred.into_iter().zip(STAYS).filter(|(occurred, _)| *occurred) {
+            self.count(&format!("no Cancel of {standing}: {what}"));
+        }
+    }
+
     fn update_given(&mut self, history: &History, standing: u8, i: usize) {
+        if has_cancel(standing) {
+            self.stays(history, standing, i);
+        }
         let causes = history.update_causes(i);
         let cause = match (causes.period, causes.ignition) {
             (true, true) => "period and ignition",
@@ -726,6 +797,19 @@ impl Tally {
             let since = history.messages().iter().rev().find(new).map(|m| i - m.reference as usize);
             self.count_if(since == Some(1), "New and Cancel of one event at neighbouring ticks");
         }
+    }
+}
+
+/// The side of a message's position that the sample's lies to.
+fn side(from: &Message, now: &Sample) -> &'static str {
+    let east = i64::from(now.east) - i64::from(from.east);
+    let north = i64::from(now.north) - i64::from(from.north);
+    let [to_east, to_west, to_north, to_south] = SIDES;
+    match (east.abs() >= north.abs(), east > 0, north > 0) {
+        (true, true, _) => to_east,
+        (true, false, _) => to_west,
+        (false, _, true) => to_north,
+        (false, _, false) => to_south,
     }
 }
 

@@ -12,6 +12,7 @@ use Rattle.history.specs.BenchStops.{BenchStops}
 use Rattle.history.specs.FurtherStops.{FurtherStops}
 use Rattle.history.specs.DriverStops.{DriverStops}
 use Rattle.history.specs.LossStops.{LossStops}
+use Rattle.history.specs.CarriedStops.{CarriedStops}
 use Rattle.history.specs.RangeExamples.{RangeExamples}
 use Rattle.calls.specs.OrderOfChecks.{OrderOfChecks}
 use Rattle.calls.specs.Demand.{Demand}
@@ -41,6 +42,8 @@ pub record Document : Type 0 where
   pub driver_stops : DriverStops
   -- and for missing readings, after CR 2
   pub loss_stops : LossStops
+  -- and for a vehicle that is carried, after CR 5
+  pub carried_stops : CarriedStops
 
 -- the promise of `Engine::fresh`: the state that has taken no sample, demand 3 for every list of calls on it, and that the definitions
 -- by which all this is said give what the documents write out

@@ -197,7 +197,7 @@ impl Seen {
     {
         self.driven_off(m)
             | self.hazard_off(m)
-            | distance_exceeded(self.view.sample.position, m.position)
+            | distance_exceeded(self.view.sample.position, self.view.origin)
     }
 
     // Whether rule 2 ends the standing warning.

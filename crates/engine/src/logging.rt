@@ -20,6 +20,7 @@ pub(crate) fn logged_notice(l: Log, notice: Option<Message>) -> Log
         NEW => Log {
             standing: notice,
             started: m.reference,
+            origin: m.position,
             counted: counted_from(m.reference, l.lastcancel),
             events: l.events + 1,
             ..l

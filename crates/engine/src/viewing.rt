@@ -47,6 +47,7 @@ pub(crate) fn seen(s: Bounded, t: State, x: Sample) -> Seen
             sample: x,
             standing: log.standing,
             started: log.started,
+            origin: log.origin,
             events: log.events,
             stationary: t.runs[STILL],
             moving: t.runs[MOVING],

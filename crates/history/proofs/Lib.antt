@@ -28,6 +28,7 @@ pub mod BenchStopsHold
 pub mod FurtherStopsHold
 pub mod DriverStopsHold
 pub mod LossStopsHold
+pub mod CarriedStopsHold
 pub mod MessagesInWords
 pub mod FactsInWords
 pub mod StillInWords

@@ -22,7 +22,7 @@ use Rattle.message.proofs.Admitted.{Admitted, admits_it}
 use Rattle.history.specs.declared.View.{View}
 use Rattle.history.specs.declared.Decision.{Decision}
 use Rattle.history.specs.Rules.{Settings, rank, standing_rank, triggers, highest, report_of, cancel_of, ends_without_message, cancel_standing, end_due, update_due, silent, raise, keep, decide, lasting, noticed, given_by}
-use Rattle.history.specs.History.{Past, present, size, filter_after, messages, standing_after, standing, events, started, last_cancel, counted_from, counted, view_of, given_at, tick_of, after, given_during}
+use Rattle.history.specs.History.{Past, present, size, filter_after, messages, standing_after, standing, events, started, origin, last_cancel, counted_from, counted, view_of, given_at, tick_of, after, given_during}
 use Rattle.history.proofs.GivenInOrder.{either}
 use Rattle.history.proofs.HighestInWords.{Overruling, highest_overrules}
 use Rattle.history.proofs.Reached.{tick_with, LastReport, Reached, reached_none, quality_at_most_3, still_counted, given_aside, crash_counted}
@@ -76,6 +76,7 @@ module _ (x : Sample) (past : Past) (r : Reached past) (f : Fields x) (few : siz
     record {
       filter_valid = filter_next [];
       started_by_now = omega arith;
+      origin_within = r.origin_within;
       counted_by_now = omega arith;
       last_cancel_by_now = omega arith;
       events_by_now = omega arith;
@@ -93,7 +94,7 @@ module _ (x : Sample) (past : Past) (r : Reached past) (f : Fields x) (few : siz
 
     -- "2. The standing one is cancelled"; where it ends without a message, nothing is given
     end_fits : Fits (record { cancel = cancel_standing (size past) (Some m); report = None })
-    unfolding given_by noticed messages size cancel_standing cancel_of standing standing_after started counted last_cancel events
+    unfolding given_by noticed messages size cancel_standing cancel_of standing standing_after started origin counted last_cancel events
     end_fits = go (ends_without_message m.warning) refl
       where
         go : (b : Bool) → ends_without_message m.warning ≡ b → Fits (record { cancel = cond b None (Some (cancel_of (size past) m)); report = None })
@@ -103,6 +104,7 @@ module _ (x : Sample) (past : Past) (r : Reached past) (f : Fields x) (few : siz
           record {
             filter_valid = filter_next _;
             started_by_now = omega arith;
+            origin_within = r.origin_within;
             counted_by_now = omega arith;
             last_cancel_by_now = omega (arith, cancel_by_now);
             events_by_now = omega arith;
@@ -125,12 +127,13 @@ module _ (x : Sample) (past : Past) (r : Reached past) (f : Fields x) (few : siz
 
     -- "3. Update"
     update_fits : Fits (record { cancel = None; report = Some an_update })
-    unfolding given_by noticed messages size report_of standing standing_after started counted last_cancel events view_of
+    unfolding given_by noticed messages size report_of standing standing_after started origin counted last_cancel events view_of
     update_fits = (
       (admits_it _ update_admitted, tt),
       record {
         filter_valid = filter_next _;
         started_by_now = omega arith;
+        origin_within = r.origin_within;
         counted_by_now = omega arith;
         last_cancel_by_now = omega arith;
         events_by_now = omega arith;
@@ -166,10 +169,11 @@ module _ (x : Sample) (past : Past) (r : Reached past) (f : Fields x) (few : siz
     new_reached : (given before : List Message) → messages (tick_with x given ∷ past) ≡ a_new ∷ before → standing (tick_with x given ∷ past) ≡ Some a_new
         → events before ≡ events ms → last_cancel before ≤ size past → (warning ≡ 3 → last_cancel before ≡ last_cancel ms)
         → Reached (tick_with x given ∷ past)
-    unfolding size report_of started counted counted_from last_cancel events view_of
+    unfolding size report_of started origin counted counted_from last_cancel events view_of
     new_reached given before e stands count lastcancel same = record {
       filter_valid = filter_next given;
       started_by_now = rw e (omega arith);
+      origin_within = rw e new_admitted.position;
       counted_by_now = rw e (omega arith);
       last_cancel_by_now = rw e (omega arith);
       events_by_now = rw e (omega arith);

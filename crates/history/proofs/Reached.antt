@@ -9,13 +9,14 @@ use borrow.Author.Tests.{ltb-true, eqb-true}
 use lib.Dec.{T, leb, ltb, eqb}
 use Rattle.std.proofs.Common.{IfSome}
 use Rattle.sample.specs.declared.Sample.{Sample}
+use Rattle.sample.specs.Sample.{outside, beyond}
 use Rattle.filter.specs.Filter.{Valid}
 use Rattle.filter.proofs.StaysInRange.{empty_valid}
 use Rattle.message.specs.declared.Message.{Message}
 use Rattle.message.proofs.Admitted.{Admitted}
 use Rattle.history.specs.declared.View.{View}
 use Rattle.history.specs.Rules.{crash_triggers}
-use Rattle.history.specs.History.{Tick, Past, present, size, some_from, filter_after, messages, is_cancel, standing, events, started, last_cancel, counted, ecall_pressed, low_severity, high_severity, highest_quality}
+use Rattle.history.specs.History.{Tick, Past, present, size, some_from, filter_after, messages, is_cancel, standing, events, started, start_of_journey, origin, last_cancel, counted, ecall_pressed, low_severity, high_severity, highest_quality}
 
 -- a tick with the sample x, at which these messages were given
 abbrev pub tick_with : Sample → List Message → Tick
@@ -33,17 +34,24 @@ pub record LastReport (past : Past) (m : Message) : Type 0 where
 pub record Reached (past : Past) : Type 0 where
   pub filter_valid : Valid (filter_after past)
   pub started_by_now : started (messages past) ≤ size past
+  pub origin_within : T (not (beyond (origin (messages past))))
   pub counted_by_now : counted (messages past) ≤ size past
   pub last_cancel_by_now : last_cancel (messages past) ≤ size past
   pub events_by_now : events (messages past) ≤ size past
   pub last_report : IfSome (standing past) (LastReport past)
 
+-- before the first New
+pub start_within : T (not (beyond start_of_journey))
+unfolding outside beyond
+start_within = tt
+
 -- before tick 0
 pub reached_none : Reached []
-unfolding size filter_after messages started counted last_cancel events standing
+unfolding size filter_after messages started origin counted last_cancel events standing
 reached_none = record {
   filter_valid = empty_valid;
   started_by_now = omega arith;
+  origin_within = start_within;
   counted_by_now = omega arith;
   last_cancel_by_now = omega arith;
   events_by_now = omega arith;

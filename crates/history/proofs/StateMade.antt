@@ -5,6 +5,7 @@ use mathlib.Core.Bool.{Bool}
 use mathlib.Core.List.{List}
 use Prim.Native.Nat.{ℕ}
 use Rattle.std.proofs.Common.{Option}
+use Rattle.sample.specs.declared.Position.{Position}
 use Rattle.filter.specs.declared.Filter.{Filter}
 use Rattle.message.specs.declared.Message.{Message}
 use Rattle.history.specs.declared.Conditions.{Conditions}
@@ -20,10 +21,10 @@ marks_made c a b d e f h i j k l = simp (h, i, j, k, l)
 pub cycle_made : (c : Cycle) (n : ℕ) (m : Conditions) → n ≡ c.ticks → m ≡ c.marks → ◌≡◌ {A = Cycle} (record { ticks = n; marks = m }) c
 cycle_made c n m a b = simp (a, b)
 
-pub log_made : (l : Log) (n : Option Message) (a b c d : ℕ)
-    → n ≡ l.standing → a ≡ l.started → b ≡ l.counted → c ≡ l.lastcancel → d ≡ l.events
-    → ◌≡◌ {A = Log} (record { standing = n; started = a; counted = b; lastcancel = c; events = d }) l
-log_made l n a b c d e f g h i = simp (e, f, g, h, i)
+pub log_made : (l : Log) (n : Option Message) (a : ℕ) (p : Position) (b c d : ℕ)
+    → n ≡ l.standing → a ≡ l.started → p ≡ l.origin → b ≡ l.counted → c ≡ l.lastcancel → d ≡ l.events
+    → ◌≡◌ {A = Log} (record { standing = n; started = a; origin = p; counted = b; lastcancel = c; events = d }) l
+log_made l n a p b c d e f o g h i = simp (e, f, o, g, h, i)
 
 pub state_made : (s : State) (n : ℕ) (f : Filter) (i : Bool) (rs : List ℕ) (c d : Cycle) (l : Log)
     → n ≡ s.taken → f ≡ s.filter → i ≡ s.ignition → rs ≡ s.runs → c ≡ s.stoppedcycle → d ≡ s.brokendowncycle → l ≡ s.log

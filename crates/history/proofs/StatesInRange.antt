@@ -11,12 +11,13 @@ use lib.Ieee.Fits.{and_i}
 use Rattle.std.proofs.Common.{Option, Some, None, IfSome}
 use Rattle.wire.proofs.Tests.{holds_true}
 use Rattle.sample.specs.declared.Sample.{Sample}
+use Rattle.sample.specs.Sample.{beyond}
 use Rattle.filter.specs.Filter.{in_range}
 use Rattle.message.specs.declared.Message.{Message}
 use Rattle.message.specs.Message.{admits}
 use Rattle.message.proofs.Admitted.{admits_it}
 use Rattle.history.specs.Rules.{Settings}
-use Rattle.history.specs.History.{Past, Fact, size, run, filter_after, stationary, messages, is_cancel, standing, events, started, last_cancel, counted, cycle_of, after}
+use Rattle.history.specs.History.{Past, Fact, size, run, filter_after, stationary, messages, is_cancel, standing, events, started, origin, last_cancel, counted, cycle_of, after}
 use Rattle.history.specs.Runs.{facts, runs_of}
 use Rattle.history.specs.Ranges.{standing_in_range, within, state_in_range}
 use Rattle.history.proofs.StepMatchesHistory.{log_of, state_of}
@@ -62,6 +63,7 @@ reached_in_range past r most =
       le-leb (counted (messages past)) (size past) r.counted_by_now,
       le-leb (last_cancel (messages past)) (size past) r.last_cancel_by_now,
       le-leb (events (messages past)) (size past) r.events_by_now,
+      holds_true (not (beyond (origin (messages past)))) r.origin_within,
       holds_true (standing_in_range (size past) (standing past)) (standing_in_range_lem past (standing past) r.last_report),
     )
     tt

@@ -16,13 +16,13 @@ use Rattle.history.specs.declared.Log.{Log}
 use Rattle.history.specs.declared.State.{State}
 use Rattle.history.specs.declared.Decision.{Decision}
 use Rattle.history.specs.Rules.{Settings, decide, lasting, noticed, given_by}
-use Rattle.history.specs.History.{Past, Fact, present, never, size, run, during, some_from, held, off_held, filter_after, stationary, condition_a, condition_b, condition_c, condition_d, one_of_a_to_d, one_of_e_to_h, was_ignited, messages, standing_after, driver_unresponsive, standing, events, started, last_cancel, counted_from, counted, ready, cycle_of, ecall_pressed, low_severity, high_severity, highest_quality, view_of, given_at, tick_of, after, given_during}
+use Rattle.history.specs.History.{Past, Fact, present, never, size, run, during, some_from, held, off_held, filter_after, stationary, condition_a, condition_b, condition_c, condition_d, one_of_a_to_d, one_of_e_to_h, was_ignited, messages, standing_after, driver_unresponsive, standing, events, started, origin, last_cancel, counted_from, counted, ready, cycle_of, ecall_pressed, low_severity, high_severity, highest_quality, view_of, given_at, tick_of, after, given_during}
 use Rattle.history.specs.Runs.{facts, facts_of, runs_after, runs_of}
 use Rattle.history.specs.State.{fresh, conditions_at, cycle_after, log_lasting, with_sample, quality_from, seen, logged, logged_notice, with_log, step, state_after, steps_give}
 
 -- the log where n stands, of the messages, the newest first
 unfoldable pub log_of : Option Message → List Message → Log
-log_of n ms = record { standing = n; started = started ms; counted = counted ms; lastcancel = last_cancel ms; events = events ms }
+log_of n ms = record { standing = n; started = started ms; origin = origin ms; counted = counted ms; lastcancel = last_cancel ms; events = events ms }
 
 -- the state that a history leaves
 unfoldable pub state_of : Past → State
@@ -38,7 +38,7 @@ state_of h = record {
 
 -- a fresh state is that of no history
 pub fresh_matches : fresh ≡ state_of []
-unfolding fresh size state_of runs_of facts log_of cycle_of run during filter_after was_ignited messages standing started counted last_cancel events
+unfolding fresh size state_of runs_of facts log_of cycle_of run during filter_after was_ignited messages standing started origin counted last_cancel events
 fresh_matches = refl
 
 -- the sample is taken
@@ -48,7 +48,7 @@ taken_matches x past = refl
 
 -- the messages are logged
 logged_matches : (a n : Option Message) (ms : List Message) → logged_notice (log_of n ms) a ≡ log_of (standing_after n (noticed a)) (reverse_aux (noticed a) ms)
-unfolding logged_notice logged log_of noticed standing_after started counted counted_from last_cancel events
+unfolding logged_notice logged log_of noticed standing_after started origin counted counted_from last_cancel events
 logged_matches None n ms = refl
 logged_matches (Some m) n ms = refl
 

@@ -1,6 +1,6 @@
--- The bench stops of document 01, as one statement about the history reading.
+-- The bench stops of document 01, with the case that CR 5 adds, as one statement about the history reading.
 -- Assumes nothing.
-use Rattle.std.specs.Prelude.{◌≡◌, true, false, cond, List, [], ◌∷◌, map, ℕ, zero, suc, ◌+◌, ◌-◌, ◌<◌, leb, eqb, pos}
+use Rattle.std.specs.Prelude.{◌≡◌, true, false, cond, List, [], ◌∷◌, map, ℕ, zero, suc, ◌+◌, ◌-◌, ◌<◌, leb, eqb, ℤ, pos}
 use Rattle.sample.specs.declared.Sample.{Sample}
 use Rattle.message.specs.declared.Message.{Message}
 use Rattle.history.specs.Rules.{unit_settings}
@@ -69,9 +69,12 @@ unfoldable pub with_happening : ℕ → Change
 with_happening bit x =
     record { tick = x.tick; speed = x.speed; gear = x.gear; switches = x.switches; happenings = x.happenings + bit; road = x.road; heading = x.heading; position = x.position }
 
-unfoldable pub with_east : ℕ → Change
-with_east east x =
-    record { tick = x.tick; speed = x.speed; gear = x.gear; switches = x.switches; happenings = x.happenings; road = x.road; heading = x.heading; position = record { east = pos east; north = x.position.north } }
+unfoldable pub with_position : ℤ → ℤ → Change
+with_position east north x =
+    record { tick = x.tick; speed = x.speed; gear = x.gear; switches = x.switches; happenings = x.happenings; road = x.road; heading = x.heading; position = record { east = east; north = north } }
+
+abbrev pub with_east : ℕ → Change
+with_east east x = with_position (pos east) x.position.north x
 
 -- a bit that is off, and one that is on
 abbrev pub switch_on : ℕ → Change
@@ -173,6 +176,8 @@ pub record BenchStops : Type 0 where
   pub vii_stays : lines_up_to 450 (from 301 (with_east 5000) ∷ []) ≡ line 300 N 1 1 1 ∷ line 450 U 1 1 1 ∷ []
   -- "5,001 cancels at 301"
   pub vii_cancels : lines_up_to 301 (from 301 (with_east 5001) ∷ []) ≡ line 300 N 1 1 1 ∷ line 301 C 1 1 1 ∷ []
+  -- "Bench stop (vii) gains a case: 3,000 dm further at each of two updates cancels at the second." (CR 5)
+  pub vii_carried : lines_up_to 600 (from 450 (with_east 3000) ∷ from 600 (with_east 6000) ∷ []) ≡ line 300 N 1 1 1 ∷ line 450 U 1 1 1 ∷ line 600 C 1 1 1 ∷ []
   -- "ignition off from 320: Updates 320 (quality 1), 470 (quality 3)"
   pub viii : lines_up_to 470 (from 320 (switch_off ignition) ∷ []) ≡ line 300 N 1 1 1 ∷ line 320 U 1 1 1 ∷ line 470 U 1 3 1 ∷ []
   -- "high severity at 310: Cancel of event 1, New of event 2"

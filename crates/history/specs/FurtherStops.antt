@@ -119,10 +119,8 @@ pub record FurtherStops : Type 0 where
       ≡ line 100 N 1 2 1 ∷ line 210 C 1 2 1 ∷ line 210 N 2 2 2 ∷ line 220 C 2 2 2 ∷ line 220 N 3 3 3 ∷ []
   -- "then New of the highest": high severity at 100
   pub highest : lines_up_to 100 (park_and_brake (at_alone 100 (with_happening high_severity) ∷ [])) ≡ line 100 N 3 3 1 ∷ []
-  -- "position more than 5,000 dm from that of the last New or Update, compared by squares": 5,000 east and 1 north, and then back
+  -- "position more than 5,000 dm from" that of its New, "compared by squares": 5,000 east and 1 north
   pub distance : lines_up_to 101 (park_and_brake (from 101 (with_place 0 0 5000 1) ∷ [])) ≡ line 100 N 1 2 1 ∷ line 101 C 1 2 1 ∷ []
-  pub distance_from_update : lines_up_to 251 (park_and_brake (from 101 (with_place 0 0 5000 0) ∷ from 251 (with_place 0 0 0 1) ∷ []))
-      ≡ line 100 N 1 2 1 ∷ line 250 U 1 2 1 ∷ line 251 C 1 2 1 ∷ []
   -- "warning 3: i-150 to i, U), none before its New", "and the tick of its own last Cancel": driving, high severity at 10, eCall at 159; at 160
   pub crash_while_driving : lines_up_to 180 (up_to 160 (with_speed 100) ∷ at_alone 10 (with_happening high_severity) ∷ at_alone 159 (with_happening ecall) ∷ [])
       ≡ line 10 N 3 3 1 ∷ line 160 C 3 3 1 ∷ []
@@ -138,7 +136,7 @@ pub record FurtherStops : Type 0 where
   pub broken_down_needs_hazard : lines_up_to 35 (broken_down (up_to 34 (switch_off hazard) ∷ [])) ≡ line 35 N 2 3 1 ∷ []
   -- "Update: 150 ticks", of 2
   pub broken_down_update : lines_up_to 180 (broken_down []) ≡ line 30 N 2 3 1 ∷ line 180 U 2 3 1 ∷ []
-  -- "position more than 5,000 dm from that of the last New or Update", of 2 and of 3: just 5,000 stays
+  -- "position more than 5,000 dm from" that of its New, of 2 and of 3: just 5,000 stays
   pub broken_down_distance : lines_up_to 35 (broken_down (five_thousand_each_way 31)) ≡ line 30 N 2 3 1 ∷ line 35 C 2 3 1 ∷ []
   pub crash_distance : lines_up_to 5 (ecall_at_start (five_thousand_each_way 1)) ≡ line 0 N 3 1 1 ∷ line 5 C 3 1 1 ∷ []
   -- "hazard lights off", of 2

@@ -1,8 +1,9 @@
--- The history reading of document 01, and of CR 1 and CR 2: it sees all accepted samples and the messages given before, looks back over them, and keeps nothing.
+-- The history reading of document 01, and of CR 1, CR 2 and CR 5: it sees all accepted samples and the messages given before, looks back over them, and keeps nothing.
 -- Assumes nothing.
-use Rattle.std.specs.Prelude.{ℕ, ◌+◌, ◌-◌, max, Bool, false, not, ◌&&◌, ◌||◌, cond, leb, ltb, eqb, Option, Some, None}
+use Rattle.std.specs.Prelude.{ℕ, ◌+◌, ◌-◌, max, Bool, false, not, ◌&&◌, ◌||◌, cond, leb, ltb, eqb, pos, Option, Some, None}
 use mathlib.Core.List.{List, [], ◌∷◌, ◌++◌, reverse_aux}
 use Rattle.warnings.specs.Warnings.{new, cancel, stopped, broken_down, post_crash}
+use Rattle.sample.specs.declared.Position.{Position}
 use Rattle.sample.specs.declared.Sample.{Sample}
 use Rattle.sample.specs.Sample.{switches_of, happenings_of, has_reading}
 use Rattle.filter.specs.declared.Filter.{Filter}
@@ -175,6 +176,15 @@ unfoldable pub started : List Message → ℕ
 started [] = 0
 started (m ∷ ms) = cond (is_new m) m.reference (started ms)
 
+-- 0 "decimetres from the start of the journey"
+abbrev pub start_of_journey : Position
+start_of_journey = record { east = pos 0; north = pos 0 }
+
+-- the position in the newest New: while a warning stands, "the position in the event's New" (CR 5)
+unfoldable pub origin : List Message → Position
+origin [] = start_of_journey
+origin (m ∷ ms) = cond (is_new m) m.position (origin ms)
+
 -- "the tick of its own last Cancel", of warning 3; 0 where there was none
 unfoldable pub last_cancel : List Message → ℕ
 last_cancel [] = 0
@@ -241,6 +251,7 @@ view_of x past =
       sample = x;
       standing = standing past;
       started = started ms;
+      origin = origin ms;
       events = events ms;
       stationary = run stationary h;
       moving = run (never stationary) h;

@@ -10,4 +10,5 @@ pub mod BenchStops
 pub mod FurtherStops
 pub mod DriverStops
 pub mod LossStops
+pub mod CarriedStops
 pub mod RangeExamples

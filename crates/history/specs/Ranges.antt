@@ -1,6 +1,7 @@
 -- The ranges of refusal 21, as docs/DECISIONS.md lists them.
 -- Assumes nothing.
 use Rattle.std.specs.Prelude.{ℕ, suc, ◌≤◌, Bool, true, not, ◌&&◌, List, [], ◌∷◌, leb, ltb, get_or, Option, Some, None}
+use Rattle.sample.specs.Sample.{beyond}
 use Rattle.filter.specs.Filter.{in_range}
 use Rattle.message.specs.declared.Message.{Message}
 use Rattle.message.specs.Message.{admits}
@@ -54,10 +55,11 @@ abbrev pub Within : ℕ → List ℕ → Type 0
 Within n ks = (i : ℕ) → get_or ks i 0 ≤ n
 
 -- "21 a state with a number outside the ranges": no more than 10,000,000 samples were taken, no count or tick is above their number, and
--- the filter and the standing message are in range
+-- the filter, the standing message and the position of the last New are in range
 unfoldable pub state_in_range : State → Bool
 state_in_range s =
     leb s.taken 10000000
     && in_range s.filter
     && standing_in_range s.taken s.log.standing
+    && not (beyond s.log.origin)
     && within s.taken (counts s)

@@ -1,4 +1,4 @@
--- The rules of document 01 and of CR 1: what is given at a tick, from what is looked at. What that is, `History` says by looking back, `State` by counting.
+-- The rules of document 01, of CR 1 and of CR 5: what is given at a tick, from what is looked at. What that is, `History` says by looking back, `State` by counting.
 -- Assumes nothing.
 use Rattle.std.specs.Prelude.{ℕ, ◌+◌, ◌-◌, ◌*◌, ◌/◌, Bool, false, not, ◌&&◌, ◌||◌, cond, List, [], ◌∷◌, ◌++◌, leb, ltb, eqb, ℤ, nat_abs, ◌-ℤ◌, get_or, Option, Some, None}
 use Rattle.warnings.specs.Warnings.{new, update, cancel, post_crash, unresponsive_driver, by_rank, row_of, validity_of, road_type_of}
@@ -135,13 +135,9 @@ cancel_standing tick (Some m) = cond (ends_without_message m.warning) None (Some
 unfoldable pub squared : ℤ → ℤ → ℕ
 squared a b = nat_abs (a -ℤ b) * nat_abs (a -ℤ b)
 
--- "position more than 5,000 dm from that of the last New or Update, compared by squares"
+-- "position more than 5,000 dm from" another, "compared by squares"
 unfoldable pub distance_exceeded : Position → Position → Bool
 distance_exceeded p q = ltb 25000000 (squared p.east q.east + squared p.north q.north)
-
--- the position that the distance is measured from
-abbrev pub measured_from : Message → Position
-measured_from m = m.position
 
 -- "not still at each tick i-50 to i (warning 3: i-150 to i, U), none before its New"
 unfoldable pub driven_off : View → Message → Bool
@@ -151,9 +147,9 @@ driven_off v m = ltb (row_of m.warning).delay v.moving && leb (v.started + (row_
 unfoldable pub hazard_off : View → Message → Bool
 hazard_off v m = not (eqb m.warning post_crash) && not (switches_of v.sample).hazard
 
--- "2. The standing one is cancelled"
+-- "2. The standing one is cancelled"; "the 5,000 dm count from the position in the event's New" (CR 5)
 unfoldable pub cancel_due : View → Message → Bool
-cancel_due v m = driven_off v m || hazard_off v m || distance_exceeded v.sample.position (measured_from m)
+cancel_due v m = driven_off v m || hazard_off v m || distance_exceeded v.sample.position v.origin
 
 -- so rule 2 ends it; but 4 ends "when the bit clears or the vehicle is still; the hazard light, position and 5 s rules don't apply to it" (CR 1)
 unfoldable pub end_due : View → Message → Bool

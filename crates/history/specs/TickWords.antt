@@ -163,7 +163,7 @@ DriverEnds h i = (at_tick mitigation_active h i ≡ false) ⊎ (at_tick stationa
 abbrev pub DrivenOff : ℕ → ℕ → Past → ℕ → Type 0
 DrivenOff d n h i = Held d (never stationary) h i × (n + d ≤ i)
 
--- "position more than 5,000 dm from that of the last New or Update, compared by squares": p from q, over the integers
+-- "position more than 5,000 dm from" another, "compared by squares": p from q, over the integers
 abbrev pub MoreThan5000 : Position → Position → Type 0
 MoreThan5000 p q =
     let east = p.east -ℤ q.east in

@@ -4,7 +4,7 @@
 
 use filter::Filter;
 use message::Message;
-use sample::Sample;
+use sample::{Position, Sample};
 
 // The state's unbroken runs, by their places: for how many ticks up to now the vehicle has stood still, has moved, each lever and
 // switch has been as conditions a to h ask, no eCall, no low severity crash or pedestrian collision, no high severity crash came, and no
@@ -69,12 +69,13 @@ pub const NO_CYCLE: Cycle = Cycle {
     },
 };
 
-// What is kept of the messages given: the standing warning's last New or Update, the tick of the last New and the first tick that
-// it counted, the tick of the last Cancel of warning 3, and the number of News.
+// What is kept of the messages given: the standing warning's last New or Update, the tick and the position of the last New and the first
+// tick that it counted, the tick of the last Cancel of warning 3, and the number of News. While a warning stands, the last New is its own.
 #[derive(Clone, Copy)]
 pub struct Log {
     pub standing: Option<Message>,
     pub started: u32,
+    pub origin: Position,
     pub counted: u32,
     pub lastcancel: u32,
     pub events: u32,
@@ -101,6 +102,7 @@ pub struct View {
     pub sample: Sample,
     pub standing: Option<Message>,
     pub started: u32,
+    pub origin: Position,
     pub events: u32,
     pub stationary: u32,
     pub moving: u32,

@@ -18,14 +18,14 @@ use Rattle.filter.specs.declared.Filter.{Filter}
 use Rattle.filter.specs.declared.Filter.TheVariants.{Empty, Running}
 use Rattle.message.specs.declared.Message.{Message}
 use Rattle.message.specs.Message.{admits}
-use Rattle.message.proofs.RoundTrip.{written_reads_back}
+use Rattle.message.proofs.RoundTrip.{position_fits, position_kept, written_reads_back}
 use Rattle.history.specs.declared.Conditions.{Conditions}
 use Rattle.history.specs.declared.State.{State}
 use Rattle.history.specs.Runs.{run_count}
 use Rattle.history.specs.Ranges.{state_in_range, stopped_place, broken_down_place, started_place, counted_place, last_cancel_place, events_place}
 use Rattle.history.proofs.StateMade.{marks_made, cycle_made, log_made, state_made}
 use Rattle.history.proofs.InRange.{InRange, in_range_lem}
-use Rattle.image.specs.Image.{layout, stopped_marks, broken_down_marks, sent_flag, standing_place, words_place, number_count, flag, is_running, filter_bits, flags_of, standing_bytes, words_of, word_bytes, image_of, flag_in, number_in, runs_in, filter_in, notice_of, standing_in, cycle_in, log_in, state_in, running_flag, ignition_flag, taken_number, filter_number, count_number}
+use Rattle.image.specs.Image.{layout, stopped_marks, broken_down_marks, sent_flag, standing_place, words_place, number_count, flag, is_running, filter_bits, flags_of, standing_bytes, words_of, word_bytes, image_of, flag_in, number_in, coordinate_in, runs_in, filter_in, notice_of, standing_in, cycle_in, origin_in, log_in, state_in, running_flag, ignition_flag, taken_number, filter_number, east_number, north_number, count_number}
 use Rattle.image.proofs.WordBytes.{word_behind, Fit, word_at}
 use Rattle.image.proofs.SavedParts.{standing_length, head_length}
 use Rattle.image.proofs.NumbersIn.{runs_in_length, run_in_at}
@@ -78,7 +78,9 @@ module _ (s : State) (h : InRange s) (size : length s.runs ≡ run_count) (t : T
   unfolding words_of
   fit zero = omega (arith, h.taken)
   fit (suc zero) = bits_fit s.filter t
-  fit (suc (suc i)) = omega (arith, h.counts i, h.taken)
+  fit (suc (suc zero)) = (position_fits s.log.origin h.origin).0
+  fit (suc (suc (suc zero))) = (position_fits s.log.origin h.origin).1
+  fit (suc (suc (suc (suc i)))) = omega (arith, h.counts i, h.taken)
 
   -- each number stands at its place
   number_again : (k : ℕ) → number_in k (image_of s) ≡ get_or (words_of s) k 0
@@ -89,7 +91,7 @@ module _ (s : State) (h : InRange s) (size : length s.runs ≡ run_count) (t : T
   run_behind : (i : ℕ) → get_or (words_of s) (number_count + i) 0 ≡ get_or s.runs i 0
   unfolding words_of
   run_behind i =
-      let e : number_count + i ≡ suc (suc (suc (suc (suc (suc (suc (suc i))))))) = omega arith in
+      let e : number_count + i ≡ suc (suc (suc (suc (suc (suc (suc (suc (suc (suc i))))))))) = omega arith in
       ap (λ (k : ℕ). get_or (words_of s) k 0) e
 
   runs_again : runs_in (image_of s) ≡ s.runs
@@ -98,14 +100,14 @@ module _ (s : State) (h : InRange s) (size : length s.runs ≡ run_count) (t : T
       ext_get_or 0 (runs_in (image_of s)) s.runs (l ∙ sym size) (λ i b.
       run_in_at (image_of s) i (omega arith) ∙ number_again (number_count + i) ∙ run_behind i)
 
-  first_again : cycle_in 2 stopped_marks (image_of s) ≡ s.stoppedcycle
+  first_again : cycle_in (count_number stopped_place) stopped_marks (image_of s) ≡ s.stoppedcycle
   unfolding flag_in image_of flags_of words_of
   first_again =
       cycle_made s.stoppedcycle _ _
       (number_again (count_number stopped_place))
       (marks_again s.stoppedcycle.marks)
 
-  second_again : cycle_in 3 broken_down_marks (image_of s) ≡ s.brokendowncycle
+  second_again : cycle_in (count_number broken_down_place) broken_down_marks (image_of s) ≡ s.brokendowncycle
   unfolding flag_in image_of flags_of words_of
   second_again =
       cycle_made s.brokendowncycle _ _
@@ -120,12 +122,17 @@ module _ (s : State) (h : InRange s) (size : length s.runs ≡ run_count) (t : T
   unfolding flag_in image_of flags_of
   sent_again = flag_again (is_some s.log.standing)
 
+  origin_again : origin_in (image_of s) ≡ s.log.origin
+  unfolding coordinate_in words_of
+  origin_again = rw (number_again east_number, number_again north_number) (position_kept s.log.origin h.origin)
+
   log_again : log_in (image_of s) ≡ s.log
   unfolding log_in words_of
   log_again =
-      log_made s.log _ _ _ _ _
+      log_made s.log _ _ _ _ _ _
       (rw (sent_again, record_again) (standing_again s.log.standing (λ m e. (h.standing m e).0)))
       (number_again (count_number started_place))
+      origin_again
       (number_again (count_number counted_place))
       (number_again (count_number last_cancel_place))
       (number_again (count_number events_place))

@@ -1,12 +1,15 @@
 -- The engine's image: what saving makes of its state, what is read back from an image, and which bytes are an image.
 -- Assumes nothing. The value of a running filter is kept by its bits, as `lib.Ieee` gives them.
-use Rattle.std.specs.Prelude.{ℕ, zero, suc, ◌+◌, ◌*◌, ◌≡◌, Bool, true, false, not, ◌&&◌, cond, List, [], ◌∷◌, ◌++◌, eqb, length, get_or, take, drop, replicate, Option, Some, None, is_some, bytes_eq, Result, Ok}
+use Rattle.std.specs.Prelude.{ℕ, zero, suc, ◌+◌, ◌*◌, ◌≡◌, Bool, true, false, not, ◌&&◌, cond, List, [], ◌∷◌, ◌++◌, eqb, length, get_or, take, drop, replicate, ℤ, Option, Some, None, is_some, bytes_eq, Result, Ok}
+use Rattle.std.specs.Int.{w32}
+use Rattle.std.proofs.Common.{to_z, of_z}
 use Rattle.std.specs.Float.{binary32}
 use Rattle.std.specs.Float.Ieee.{of_bits, to_bits, nan_bits}
 use mir.Val.{bool_byte}
 use Rattle.wire.specs.declared.Refusal.{Refusal}
 use Rattle.wire.specs.Words.{bytes_of, word}
 use Rattle.wire.specs.Outcome.{check, first_fault, Outcome, accepted, refused, outcome, answered}
+use Rattle.sample.specs.declared.Position.{Position}
 use Rattle.filter.specs.declared.Filter.{Filter}
 use Rattle.filter.specs.declared.Filter.TheVariants.{Empty, Running}
 use Rattle.message.specs.declared.Message.{Message}
@@ -23,7 +26,7 @@ use Rattle.history.specs.Ranges.{counts, stopped_place, broken_down_place, start
 -- byte 0 is the layout's number. An image outlives the software that saved it: every change of what an image holds raises the number,
 -- so that an image of another layout is told by its first byte
 abbrev pub layout : ℕ
-layout = 2
+layout = 3
 
 -- then yes or no, one byte each: whether the filter is running, ignition, five marks of each cycle, whether a warning stands; and
 -- two zeros, so that every number stands at a place that four divides
@@ -56,16 +59,22 @@ standing_place = flags_place + flag_count
 abbrev pub words_place : ℕ
 words_place = standing_place + 32
 
--- which number stands at which place, in the order of `words_of`: the samples taken, the filter's bits
+-- which number stands at which place, in the order of `words_of`: the samples taken, the filter's bits, the position of the last New
 abbrev pub taken_number : ℕ
 taken_number = 0
 
 abbrev pub filter_number : ℕ
 filter_number = 1
 
--- the counts stand behind these two, each at its place
+abbrev pub east_number : ℕ
+east_number = 2
+
+abbrev pub north_number : ℕ
+north_number = 3
+
+-- the counts stand behind these four, each at its place
 abbrev pub count_number : ℕ → ℕ
-count_number k = 2 + k
+count_number k = 4 + k
 
 -- how many numbers there are before the runs
 abbrev pub number_count : ℕ
@@ -106,9 +115,9 @@ unfoldable pub standing_bytes : Option Message → List ℕ
 standing_bytes None = replicate 32 0
 standing_bytes (Some m) = encode m
 
--- `counts` ends with the runs
+-- coordinates in two's complement; `counts` ends with the runs
 unfoldable pub words_of : State → List ℕ
-words_of s = s.taken ∷ filter_bits s.filter ∷ counts s
+words_of s = s.taken ∷ filter_bits s.filter ∷ of_z w32 s.log.origin.east ∷ of_z w32 s.log.origin.north ∷ counts s
 
 unfoldable pub word_bytes : List ℕ → List ℕ
 word_bytes [] = []
@@ -125,6 +134,10 @@ flag_in k s = eqb (get_or s (flags_place + k) 0) 1
 
 unfoldable pub number_in : ℕ → List ℕ → ℕ
 number_in k s = word 4 s (words_place + 4 * k)
+
+-- a coordinate, two's complement
+unfoldable pub coordinate_in : ℕ → List ℕ → ℤ
+coordinate_in k s = to_z w32 (number_in k s)
 
 -- n numbers from number k on
 unfoldable pub numbers_in : ℕ → ℕ → List ℕ → List ℕ
@@ -160,10 +173,14 @@ marks_in mark s = record {
 abbrev pub cycle_in : ℕ → ℕ → List ℕ → Cycle
 cycle_in ticks mark s = record { ticks = number_in ticks s; marks = marks_in mark s }
 
+abbrev pub origin_in : List ℕ → Position
+origin_in s = record { east = coordinate_in east_number s; north = coordinate_in north_number s }
+
 unfoldable pub log_in : List ℕ → Log
 log_in s = record {
   standing = standing_in (flag_in sent_flag s) (take 32 (drop standing_place s));
   started = number_in (count_number started_place) s;
+  origin = origin_in s;
   counted = number_in (count_number counted_place) s;
   lastcancel = number_in (count_number last_cancel_place) s;
   events = number_in (count_number events_place) s;

@@ -1,20 +1,21 @@
 // The engine's state, each part from its place in an image.
 ghost use Rattle.std.specs.Prelude.{◌≡◌, ◌+◌, ◌≤◌, ◌<◌};
 ghost use Rattle.history.specs.Runs.{run_count};
-ghost use Rattle.image.specs.Image.{flag_count, number_count, flag_in, number_in, runs_in, filter_in, standing_in, marks_in, log_in, state_in};
+ghost use Rattle.image.specs.Image.{flag_count, number_count, flag_in, number_in, coordinate_in, runs_in, filter_in, standing_in, marks_in, log_in, state_in};
 
 use crate::{
-    BROKEN_DOWN_MARKS, BROKEN_DOWN_TICKS, BYTES, COUNTED, EVENTS, FILTER_BITS, FLAGS_AT, IGNITION,
-    LAST_CANCEL, NUMBERS, RUNNING, SENT, STANDING_AT, STARTED, STOPPED_MARKS, STOPPED_TICKS, TAKEN,
-    WORDS_AT,
+    BROKEN_DOWN_MARKS, BROKEN_DOWN_TICKS, BYTES, COUNTED, EAST, EVENTS, FILTER_BITS, FLAGS_AT,
+    IGNITION, LAST_CANCEL, NORTH, NUMBERS, RUNNING, SENT, STANDING_AT, STARTED, STOPPED_MARKS,
+    STOPPED_TICKS, TAKEN, WORDS_AT,
 };
 use filter::Filter;
 use history::{Conditions, Cycle, Log, RUNS, State};
 use message::Message;
+use sample::Position;
 use std::array;
 use std::num::f32_from_bits_with_nan;
 
-// Yes or no, and number, by their places among the others, in the order of `encoding`.
+// Yes or no, number and coordinate, by their places among the others, in the order of `encoding`.
 #[tactic(auto, unfolding(crate::specs::Image::flag_in))]
 fn flag_in(image: &[u8; BYTES], k: usize) -> bool
     requires { k < flag_count }
@@ -27,6 +28,14 @@ fn flag_in(image: &[u8; BYTES], k: usize) -> bool
 fn number_in(image: &[u8; BYTES], k: usize) -> u32
     requires { k < number_count + run_count }
     ensures { result ≡ number_in k image.now }
+{
+    wire::word_at(image, WORDS_AT + 4 * k)
+}
+
+#[tactic(auto, unfolding(crate::specs::Image::number_in, crate::specs::Image::coordinate_in))]
+fn coordinate_in(image: &[u8; BYTES], k: usize) -> i32
+    requires { k < number_count }
+    ensures { result ≡ coordinate_in k image.now }
 {
     wire::word_at(image, WORDS_AT + 4 * k)
 }
@@ -85,6 +94,10 @@ fn log_in(image: &[u8; BYTES]) -> Log
     Log {
         standing: standing_in(flag_in(image, SENT), &image[STANDING_AT..WORDS_AT]),
         started: number_in(image, STARTED),
+        origin: Position {
+            east: coordinate_in(image, EAST),
+            north: coordinate_in(image, NORTH),
+        },
         counted: number_in(image, COUNTED),
         lastcancel: number_in(image, LAST_CANCEL),
         events: number_in(image, EVENTS),

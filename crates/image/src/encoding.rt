@@ -61,6 +61,8 @@ pub(crate) fn numbers_of(s: State) -> [u32; NUMBERS]
     [
         s.taken,
         filter_bits(s.filter),
+        s.log.origin.east.cast_unsigned(),
+        s.log.origin.north.cast_unsigned(),
         s.stoppedcycle.ticks,
         s.brokendowncycle.ticks,
         s.log.started,

@@ -12,7 +12,7 @@ use history::{RUNS, State};
 use wire::Refusal;
 
 // The first byte of an image. Every change of what an image holds raises it, so that no image of other software is misread.
-const LAYOUT: u8 = 2;
+const LAYOUT: u8 = 3;
 
 // Yes or no, by their places: whether the filter is running, ignition, five marks of each cycle, whether a warning stands; and two
 // zeros, so that every number stands at a place that four divides, where the compiler compares it whole. The places here and below are
@@ -34,19 +34,26 @@ const TAKEN: usize = 0;
 
 const FILTER_BITS: usize = 1;
 
-const STOPPED_TICKS: usize = 2;
+const EAST: usize = 2;
 
-const BROKEN_DOWN_TICKS: usize = 3;
+const NORTH: usize = 3;
 
-const STARTED: usize = 4;
+// The counts stand behind these.
+const COUNTS: usize = 4;
 
-const COUNTED: usize = 5;
+const STOPPED_TICKS: usize = COUNTS;
 
-const LAST_CANCEL: usize = 6;
+const BROKEN_DOWN_TICKS: usize = COUNTS + 1;
 
-const EVENTS: usize = 7;
+const STARTED: usize = COUNTS + 2;
 
-const NUMBERS: usize = 8;
+const COUNTED: usize = COUNTS + 3;
+
+const LAST_CANCEL: usize = COUNTS + 4;
+
+const EVENTS: usize = COUNTS + 5;
+
+const NUMBERS: usize = COUNTS + 6;
 
 // The parts of an image, one behind the other: yes or no, the standing warning's record, the numbers, the runs.
 const FLAGS_AT: usize = 1;

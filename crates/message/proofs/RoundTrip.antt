@@ -34,23 +34,29 @@ use Rattle.message.proofs.Admitted.{admitted}
 
 -- ---- written, then read
 
--- a coordinate within the limits is what its four bytes are read as
+-- a coordinate within the limits fits four bytes, and is what these are read as
 inside_fits : (z : ℤ) → T (not (outside z)) → SFits w32 z
 unfolding outside
 inside_fits (pos n) t = let h = nltb→le 1000000 n t in record { sfits = omega arith }
 inside_fits (negsuc n) t = let h = nltb→le 1000000 (suc n) t in record { sfits = omega arith }
 
-coordinate_again : (z : ℤ) → T (not (outside z)) → to_z w32 (little (bytes_of 4 (of_z w32 z))) ≡ z
-coordinate_again z t =
-    let f = inside_fits z t in
-    ap (to_z w32) (little-bytes_of 4 (of_z w32 z) (Fits-of_z {w = w32} {z = z} f).fits) ∙ signed_again z f
+coordinate_fits : (z : ℤ) → T (not (outside z)) → of_z w32 z < 256 ^ 4
+coordinate_fits z t = (Fits-of_z {w = w32} {z = z} (inside_fits z t)).fits
 
-position_again : (p : Position) → T (not (beyond p))
-    → ◌≡◌ {A = Position} (record { east = to_z w32 (little (bytes_of 4 (of_z w32 p.east))); north = to_z w32 (little (bytes_of 4 (of_z w32 p.north))) }) p
-unfolding beyond
-position_again p t =
-    let n = neither (outside p.east) (outside p.north) t in
-    rw (coordinate_again p.east n.0, coordinate_again p.north n.1)
+module _ (p : Position) (t : T (not (beyond p))) where
+  pub position_fits : (of_z w32 p.east < 256 ^ 4) × (of_z w32 p.north < 256 ^ 4)
+  unfolding beyond
+  position_fits = let n = neither (outside p.east) (outside p.north) t in (coordinate_fits p.east n.0, coordinate_fits p.north n.1)
+
+  pub position_kept : ◌≡◌ {A = Position} (record { east = to_z w32 (of_z w32 p.east); north = to_z w32 (of_z w32 p.north) }) p
+  unfolding beyond
+  position_kept =
+      let n = neither (outside p.east) (outside p.north) t in
+      rw (signed_again p.east (inside_fits p.east n.0), signed_again p.north (inside_fits p.north n.1))
+
+  position_again : ◌≡◌ {A = Position} (record { east = to_z w32 (little (bytes_of 4 (of_z w32 p.east))); north = to_z w32 (little (bytes_of 4 (of_z w32 p.north))) }) p
+  position_again =
+      rw (little-bytes_of 4 (of_z w32 p.east) position_fits.0, little-bytes_of 4 (of_z w32 p.north) position_fits.1) position_kept
 
 -- the fields, each from what its bytes are read as
 fields_made : (m : Message) (event detection reference heading validity : ℕ) (position : Position)

@@ -8,6 +8,7 @@ ghost use Rattle.history.specs.Ranges.{standing_in_range, within, state_in_range
 use filter::Filter;
 use history::{Log, NO_CYCLE, RUNS, State};
 use message::Message;
+use sample::Position;
 use warnings::CANCEL;
 
 // The state of an engine that has taken no sample.
@@ -25,6 +26,7 @@ pub fn fresh_state() -> State
         log: Log {
             standing: None,
             started: 0,
+            origin: Position { east: 0, north: 0 },
             counted: 0,
             lastcancel: 0,
             events: 0,
@@ -67,4 +69,5 @@ pub fn state_in_range(s: State) -> bool
         && within(n, &s.runs)
         && s.filter.in_range()
         && standing_in_range(n, l.standing)
+        && !l.origin.beyond_limit()
 }

@@ -353,7 +353,7 @@ fn junk(comparison: &mut Comparison) {
 // ------------------------------------------------------------------ long days
 
 /// Random days: each round has many short ones, where the start matters, some
-/// of a few hours and one with stands past 15 minutes.
+/// of a few hours, one with stands past 15 minutes and one on a flatbed.
 fn random_days(comparison: &mut Comparison, rounds: u64) {
     for round in 0..rounds {
         let seed = SEED + round * 1_000;
@@ -365,6 +365,7 @@ fn random_days(comparison: &mut Comparison, rounds: u64) {
         one_day(comparison, "quiet day", seed + 300, days::QUIET, 15_000);
         one_day(comparison, "day of long stands", seed + 400, days::LONG_STANDS, 30_000);
         one_day(comparison, "day in traffic", seed + 500, days::TRAFFIC, 30_000);
+        day_on_a_flatbed(comparison, seed + 600, 12_000);
     }
 }
 
@@ -377,14 +378,29 @@ fn one_day(comparison: &mut Comparison, part: &str, seed: u64, style: Style, tic
         if comparison.random.one_in(6) {
             disturb(comparison, day.next_sample());
         }
-        let count = match comparison.random.place(8) {
-            0..=2 => 0,
-            3..=4 => BLOCK_SAMPLES,
-            _ => 1 + comparison.random.place(BLOCK_SAMPLES),
-        };
-        if take(comparison, &mut day, count) < 0 {
-            comparison.fail("a sample of the day was refused");
-        }
+        take_some(comparison, &mut day);
+    }
+}
+
+/// A day on a flatbed, given as any day but with no calls between: its ways are laid
+/// out by ticks, so that no sample of it may be left out.
+fn day_on_a_flatbed(comparison: &mut Comparison, seed: u64, ticks: usize) {
+    comparison.restart("day on a flatbed", seed);
+    let mut day = Day::new(seed, days::FLATBED);
+    while comparison.taken() < ticks {
+        take_some(comparison, &mut day);
+    }
+}
+
+/// Takes some of the day's samples by a sample call or as a block.
+fn take_some(comparison: &mut Comparison, day: &mut Day) {
+    let count = match comparison.random.place(8) {
+        0..=2 => 0,
+        3..=4 => BLOCK_SAMPLES,
+        _ => 1 + comparison.random.place(BLOCK_SAMPLES),
+    };
+    if take(comparison, day, count) < 0 {
+        comparison.fail("a sample of the day was refused");
     }
 }
 

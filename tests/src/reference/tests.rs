@@ -79,6 +79,54 @@ fn a_cancel_repeats_the_last_new_or_update() {
     assert_eq!(*cancel, Message { kind: kind::CANCEL, reference: 360, ..*new });
 }
 
+/// Carried 6 dm east and 8 dm south at each tick, 10 dm in all, with the hazard lights
+/// off at 310 alone: two events, the second with Updates.
+fn carried() -> History {
+    let sample = |tick| {
+        let (east, north) = (6 * tick as i32 - 900, -8 * tick as i32);
+        let mut sample = Sample { east, north, ..stopped(tick) };
+        if tick == 310 {
+            sample.switches &= !switch::HAZARD;
+        }
+        sample
+    };
+    played(&(0..=1_112).map(sample).collect::<Vec<_>>())
+}
+
+#[test]
+fn the_distance_counts_from_the_new_of_the_event() {
+    let history = carried();
+    let second = ["611 N 1 1 2", "761 U 1 1 2", "911 U 1 1 2", "1061 U 1 1 2", "1112 C 1 1 2"];
+    assert_eq!(lines(&history), [&["300 N 1 1 1", "310 C 1 1 1"][..], &second].concat());
+    let squares = [301, 310, 612, 761, 762, 1_061, 1_062, 1_111, 1_112];
+    let distances = [10, 100, 10, 1_500, 1_510, 4_500, 4_510, 5_000, 5_010];
+    assert_eq!(squares.map(|i| history.square_moved(i)), distances.map(|dm| dm * dm));
+    assert_eq!(history.square_moved(1_111), SQUARE_TOO_FAR);
+}
+
+#[test]
+fn the_new_that_the_distance_counts_from_is_that_of_what_stands() {
+    let history = carried();
+    let news = [301, 310, 612, 761, 762, 1_112].map(|i| history.standing_new(i).reference);
+    assert_eq!(news, [300, 300, 611, 611, 611, 611]);
+    let last = [301, 310, 612, 761, 762, 1_112].map(|i| history.last_new_or_update(i).reference);
+    assert_eq!(last, [300, 300, 611, 611, 761, 1_061]);
+}
+
+#[test]
+fn an_update_has_its_own_position_and_a_cancel_that_of_the_last() {
+    let places = carried().messages().iter().map(|m| (m.east, m.north)).collect::<Vec<_>>();
+    let at = |tick| (6 * tick - 900, -8 * tick);
+    assert_eq!(places, [300, 300, 611, 761, 911, 1_061, 1_061].map(at));
+}
+
+#[test]
+fn a_square_from_end_to_end() {
+    let scenes = scenes::all();
+    let stop = scenes.iter().find(|s| s.name == "south-west to north-east").unwrap();
+    assert_eq!(played(&stop.samples).square_moved(301), 8_000_000_000_000);
+}
+
 /// Moving on road 2 with a door open for more than 31 samples, the function
 /// active from tick 40 on.
 fn unresponsive() -> History {
