@@ -5,8 +5,9 @@
  * or stops the program.
  *
  * Every call answers an int32_t: not negative, the count or the answer that its comment names; negative, minus the number of a refusal,
- * those of document 01, "What is turned down", and 31 to 33 of a receiver (CR 4). A refused call leaves all lent memory as it was. An
- * accepted one writes the start of `out` and leaves the rest as lent.
+ * those of document 01, "What is turned down", 31 to 33 of a receiver (CR 4), and 34 of striking a sample out of a block (CR 6). A refused
+ * call leaves all lent memory as it was. An accepted one writes the start of `out` and leaves the rest as lent; one that changes an engine,
+ * a receiver or a block writes it in place.
  *
  * Formats (samples, blocks, messages: little-endian) are those of document 01, with what change request CR 1 adds: happening bit 4 of a
  * sample says that a risk mitigation function is active, refusal 5 covers bits 5 to 7, and warning 4 is that for an unresponsive driver,
@@ -106,6 +107,18 @@ int32_t yoldrim_block_read(const uint8_t *block, size_t block_bytes, uint8_t *ou
 
 /* Writes the recorder block of 1 to 25 samples to `out`. Answers how many they are. Refusals in the order 1, 2, 3-8. */
 int32_t yoldrim_block_write(const uint8_t *samples, size_t samples_bytes, uint8_t *out, size_t out_bytes);
+
+/* Appends a sample to those of a recorder block, in the lent block, which is then what yoldrim_block_write makes of these samples (CR 6).
+ * Answers how many they are then, 2 to 25. The sample may have any tick; a block call takes the block only where its ticks follow each
+ * other. Refusals in the order 1 for block or sample, 9-12 and 3-8 of the block, 3-8 of the sample, then 9 for a twenty-sixth. */
+int32_t yoldrim_block_append(uint8_t *block, size_t block_bytes, const uint8_t *sample, size_t sample_bytes);
+
+/* Strikes the last sample out of those of a recorder block, in the lent block, which is then what yoldrim_block_write makes of the others
+ * (CR 6). Answers how many they are then, 1 to 24. Refusals in the order 1, 9-12 and 3-8 of the block, then 34 for the only one.
+ * Striking out after appending gives the first bytes again, and so does appending the struck sample after striking out; neither second
+ * call is ever refused. The struck sample is lost unless the caller copies it before: its 20 bytes begin at byte 20 * count - 8 of the
+ * block, where count is byte 4. */
+int32_t yoldrim_block_strike_out(uint8_t *block, size_t block_bytes);
 
 /* Answers 0 for the bytes of a message, -13 for a wrong length, -14 for a field that no message has. */
 int32_t yoldrim_message_check(const uint8_t *message, size_t message_bytes);

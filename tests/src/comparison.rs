@@ -1,5 +1,5 @@
-//! Two units side by side: each call goes to both, and answer, output memory,
-//! input memory and, after a refusal, the engine's bytes must agree.
+//! Two units side by side: each call goes to both, and answer, lent memory, input
+//! memory and, where the call may not change it, the engine's bytes must agree.
 
 use crate::random::Random;
 use crate::reference::{Message, Reference, MESSAGE_BYTES};
@@ -7,7 +7,7 @@ use crate::tally::{Call, Tally};
 use crate::unit::Unit;
 use std::process::exit;
 
-/// Bytes on either side of the lent output that nobody may touch.
+/// Bytes on either side of the lent memory that nobody may touch.
 const GUARD: usize = 64;
 
 pub struct Comparison<'a> {
@@ -25,7 +25,8 @@ pub struct Comparison<'a> {
     pub messages: u64,
 }
 
-/// One call as both sides saw it.
+/// One call as both sides saw it; `lent` and `memory` are the lent memory with its
+/// guards, before and after.
 struct Outcome<'a> {
     call: Call,
     input: &'a [u8],
@@ -77,12 +78,39 @@ impl<'a> Comparison<'a> {
     /// Makes one call on both sides with `lent` bytes of output; ends the run
     /// at a difference. The answer both gave.
     pub fn call(&mut self, call: Call, input: &[u8], lent: usize) -> i32 {
-        self.call_number += 1;
-        self.calls += 1;
+        self.call_for_output(call, input, lent).0
+    }
+
+    /// `call`, with what the output holds after it.
+    pub fn call_for_output(&mut self, call: Call, input: &[u8], lent: usize) -> (i32, Vec<u8>) {
+        let before = self.memory(lent);
+        self.on_both_sides(call, input, before)
+    }
+
+    /// Makes one call that alters a lent block (CR 6), here `block`, on both sides;
+    /// ends the run at a difference. The answer both gave.
+    pub fn alter(&mut self, call: Call, sample: &[u8], block: &mut [u8]) -> i32 {
+        let mut before = self.memory(block.len());
+        before[GUARD..GUARD + block.len()].copy_from_slice(block);
+        let (answer, after) = self.on_both_sides(call, sample, before);
+        block.copy_from_slice(&after);
+        answer
+    }
+
+    /// Memory of any content, so many bytes between two guards.
+    fn memory(&mut self, lent: usize) -> Vec<u8> {
         let mut memory = vec![0; lent + 2 * GUARD];
         self.random.fill(&mut memory);
-        let before = memory.clone();
-        let (mut expected, mut found) = (memory.clone(), memory);
+        memory
+    }
+
+    /// Makes one call on both sides, each with its own copy of `before`, the lent memory
+    /// with its guards. The answer both gave, and what the lent memory holds after it.
+    fn on_both_sides(&mut self, call: Call, input: &[u8], before: Vec<u8>) -> (i32, Vec<u8>) {
+        self.call_number += 1;
+        self.calls += 1;
+        let lent = GUARD..before.len() - GUARD;
+        let (mut expected, mut found) = (before.clone(), before.clone());
         let image = self.unit.image().to_vec();
         let tick = self.taken();
         let given = self.reference.history.messages().len();
@@ -90,8 +118,8 @@ impl<'a> Comparison<'a> {
         // otherwise mislead the other.
         let unit_input = input.to_vec();
 
-        let wanted = ask(&mut self.reference, call, input, &mut expected[GUARD..GUARD + lent]);
-        let answer = ask(self.unit, call, &unit_input, &mut found[GUARD..GUARD + lent]);
+        let wanted = ask(&mut self.reference, call, input, &mut expected[lent.clone()]);
+        let answer = ask(self.unit, call, &unit_input, &mut found[lent.clone()]);
 
         let outcome = Outcome {
             call,
@@ -100,24 +128,29 @@ impl<'a> Comparison<'a> {
             answers: [wanted, answer],
             memory: [&expected, &found],
         };
-        if answer != wanted {
-            self.differ("the answers differ", &outcome);
-        }
-        if found != expected {
-            self.differ("the output memory differs", &outcome);
-        }
+        self.agree(&outcome);
         if unit_input != input {
             self.differ("the unit wrote into its input", &outcome);
         }
-        if wanted < 0 && expected != before {
-            self.differ("the reference wrote though it refused", &outcome);
+        if (wanted < 0 || !call.is_given_the_engine()) && self.unit.image() != image {
+            self.differ("the engine's bytes changed", &outcome);
         }
-        if wanted < 0 && self.unit.image() != image {
-            self.differ("the engine's bytes changed at a refusal", &outcome);
-        }
-        self.tally.answered(call, input, answer);
+        self.tally.answered(call, input, &before[lent.clone()], answer);
         self.tally_ticks(tick, given);
-        answer
+        (answer, expected[lent].to_vec())
+    }
+
+    fn agree(&self, outcome: &Outcome) {
+        let ([wanted, answer], [expected, found]) = (outcome.answers, outcome.memory);
+        if answer != wanted {
+            self.differ("the answers differ", outcome);
+        }
+        if found != expected {
+            self.differ("the lent memory differs", outcome);
+        }
+        if wanted < 0 && expected != outcome.lent {
+            self.differ("the reference wrote though it refused", outcome);
+        }
     }
 
     /// Counts what occurred at the ticks from `tick` on, whose messages begin
@@ -151,22 +184,25 @@ impl<'a> Comparison<'a> {
     fn differ(&self, what: &str, outcome: &Outcome) -> ! {
         println!("call: {}, {} bytes of input", outcome.call.name(), outcome.input.len());
         println!("input: {}", hex(outcome.input));
-        println!("output memory lent: {} bytes", outcome.lent.len() - 2 * GUARD);
-        println!("output memory with its guards, as lent:\n{}", rows(outcome.lent));
+        println!("memory lent: {} bytes", outcome.lent.len() - 2 * GUARD);
+        println!("lent memory with its guards, as lent:\n{}", rows(outcome.lent));
         for (side, name) in ["reference", "unit"].iter().enumerate() {
             println!("{name}'s answer: {}", outcome.answers[side]);
-            println!("{name}'s output memory with its guards:\n{}", rows(outcome.memory[side]));
+            println!("{name}'s lent memory with its guards:\n{}", rows(outcome.memory[side]));
         }
         self.fail(what)
     }
 }
 
-fn ask(unit: &mut dyn Unit, call: Call, input: &[u8], out: &mut [u8]) -> i32 {
+/// `lent` is the output, or the block that the call alters.
+fn ask(unit: &mut dyn Unit, call: Call, input: &[u8], lent: &mut [u8]) -> i32 {
     match call {
-        Call::Sample => unit.sample(input, out),
-        Call::Block => unit.block(input, out),
-        Call::BlockRead => unit.block_read(input, out),
-        Call::BlockWrite => unit.block_write(input, out),
+        Call::Sample => unit.sample(input, lent),
+        Call::Block => unit.block(input, lent),
+        Call::BlockRead => unit.block_read(input, lent),
+        Call::BlockWrite => unit.block_write(input, lent),
+        Call::BlockAppend => unit.block_append(lent, input),
+        Call::BlockStrikeOut => unit.block_strike_out(lent),
         Call::MessageCheck => unit.message_check(input),
     }
 }

@@ -80,6 +80,13 @@ pub fn seal(block: &mut [u8]) {
     block[8..12].copy_from_slice(&check.to_le_bytes());
 }
 
+/// The bytes with one bit flipped.
+pub fn flipped(bytes: &[u8], bit: usize) -> Vec<u8> {
+    let mut bytes = bytes.to_vec();
+    bytes[bit / 8] ^= 1 << (bit % 8);
+    bytes
+}
+
 fn puts(at: usize, width: usize, values: &[i64]) -> Vec<Change> {
     values.iter().map(|&value| Put { at, width, value }).collect()
 }

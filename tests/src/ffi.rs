@@ -29,6 +29,13 @@ extern "C" {
         out: *mut u8,
         out_len: usize,
     ) -> i32;
+    fn yoldrim_block_append(
+        block: *mut u8,
+        block_len: usize,
+        sample: *const u8,
+        sample_len: usize,
+    ) -> i32;
+    fn yoldrim_block_strike_out(block: *mut u8, block_len: usize) -> i32;
     fn yoldrim_message_check(message: *const u8, message_len: usize) -> i32;
     fn yoldrim_receiver_empty(receiver: *mut u8, receiver_len: usize) -> i32;
     fn yoldrim_receive(
@@ -154,6 +161,18 @@ impl Unit for Library {
     fn block_write(&self, samples: &[u8], out: &mut [u8]) -> i32 {
         // SAFETY: as for `sample`.
         unsafe { yoldrim_block_write(samples.as_ptr(), samples.len(), out.as_mut_ptr(), out.len()) }
+    }
+
+    fn block_append(&self, block: &mut [u8], sample: &[u8]) -> i32 {
+        // SAFETY: as for `sample`.
+        unsafe {
+            yoldrim_block_append(block.as_mut_ptr(), block.len(), sample.as_ptr(), sample.len())
+        }
+    }
+
+    fn block_strike_out(&self, block: &mut [u8]) -> i32 {
+        // SAFETY: pointer and length are those of one live, exclusive slice.
+        unsafe { yoldrim_block_strike_out(block.as_mut_ptr(), block.len()) }
     }
 
     fn message_check(&self, message: &[u8]) -> i32 {

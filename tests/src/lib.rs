@@ -9,6 +9,7 @@ pub mod faults;
 pub mod ffi;
 #[cfg(library)]
 pub mod layout;
+pub mod lent_block;
 pub mod plain;
 pub mod printing;
 pub mod random;

@@ -1,6 +1,7 @@
 //! How often each rule, refusal and value occurred in a run. Every row is
 //! declared beforehand, so one that never occurred can be named.
 
+use crate::lent_block;
 use crate::reference::*;
 use std::collections::HashMap;
 
@@ -11,12 +12,21 @@ pub enum Call {
     Block,
     BlockRead,
     BlockWrite,
+    BlockAppend,
+    BlockStrikeOut,
     MessageCheck,
 }
 
 impl Call {
-    pub const ALL: [Call; 5] =
-        [Call::Sample, Call::Block, Call::BlockRead, Call::BlockWrite, Call::MessageCheck];
+    pub const ALL: [Call; 7] = [
+        Call::Sample,
+        Call::Block,
+        Call::BlockRead,
+        Call::BlockWrite,
+        Call::BlockAppend,
+        Call::BlockStrikeOut,
+        Call::MessageCheck,
+    ];
 
     pub fn name(self) -> &'static str {
         match self {
@@ -24,11 +34,18 @@ impl Call {
             Call::Block => "block",
             Call::BlockRead => "block_read",
             Call::BlockWrite => "block_write",
+            Call::BlockAppend => "block_append",
+            Call::BlockStrikeOut => "block_strike_out",
             Call::MessageCheck => "message_check",
         }
     }
 
-    /// The refusals that document 01 gives this call, in their order, but for
+    /// Whether the call is given the engine; only then may it change it.
+    pub fn is_given_the_engine(self) -> bool {
+        matches!(self, Call::Sample | Call::Block)
+    }
+
+    /// The refusals that the documents give this call, in their order, but for
     /// 21: only an engine lent as bytes can be outside its ranges.
     pub fn refusals(self) -> &'static [i32] {
         match self {
@@ -36,6 +53,8 @@ impl Call {
             Call::Block => &[1, 2, 9, 10, 11, 12, 22, 3, 4, 5, 6, 7, 8, 23],
             Call::BlockRead => &[1, 2, 9, 10, 11, 12, 3, 4, 5, 6, 7, 8],
             Call::BlockWrite => &[1, 2, 3, 4, 5, 6, 7, 8],
+            Call::BlockAppend => &[1, 9, 10, 11, 12, 3, 4, 5, 6, 7, 8],
+            Call::BlockStrikeOut => &[1, 9, 10, 11, 12, 3, 4, 5, 6, 7, 8, 34],
             Call::MessageCheck => &[13, 14],
         }
     }
@@ -147,6 +166,7 @@ impl Tally {
         tally.declare_order();
         tally.declare_fields();
         tally.declare_calls();
+        lent_block::tally::declare(&mut tally);
         tally
     }
 
@@ -400,8 +420,12 @@ impl Tally {
         }
     }
 
-    /// Counts the answer to a call with this input.
-    pub fn answered(&mut self, call: Call, input: &[u8], answer: i32) {
+    /// Counts the answer to a call with this input and, before the call, this lent
+    /// memory.
+    pub fn answered(&mut self, call: Call, input: &[u8], lent: &[u8], answer: i32) {
+        if matches!(call, Call::BlockAppend | Call::BlockStrikeOut) {
+            lent_block::tally::answered(self, call, input, lent, answer);
+        }
         if answer < 0 {
             self.count(&format!("{} refused {}", call.name(), -answer));
             match (call, -answer) {
@@ -412,7 +436,7 @@ impl Tally {
             return;
         }
         self.count(&format!("{} accepted", call.name()));
-        if matches!(call, Call::Sample | Call::Block) && answer <= 4 {
+        if call.is_given_the_engine() && answer <= 4 {
             self.count(&format!("{} call gave {answer} messages", call.name()));
         }
     }

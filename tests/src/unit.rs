@@ -19,6 +19,12 @@ pub trait Unit {
     /// The block writer alone: the count of samples in the block written.
     fn block_write(&self, samples: &[u8], out: &mut [u8]) -> i32;
 
+    /// Appends the sample to the lent block: the block's new count.
+    fn block_append(&self, block: &mut [u8], sample: &[u8]) -> i32;
+
+    /// Strikes the last sample out of the lent block: the block's new count.
+    fn block_strike_out(&self, block: &mut [u8]) -> i32;
+
     /// 0 if the message reader takes the record.
     fn message_check(&self, message: &[u8]) -> i32;
 

@@ -8,6 +8,7 @@ ghost use Rattle.std.specs.Prelude.{◌≡◌, not, [], ◌∷◌, eqb, ltb, len
 ghost use Rattle.wire.specs.Outcome.{check, first_fault, number_of, outcome, answered, given_count};
 ghost use Rattle.message.specs.Message.{message_read};
 ghost use Rattle.block.specs.Block.{block_read, block_read_memory, block_write, block_write_memory};
+ghost use Rattle.block.specs.LastSample.{append, append_memory, strike_out, strike_out_memory};
 ghost use Rattle.calls.specs.Calls.{sample_call, block_call};
 ghost use Rattle.image.specs.Image.{is_image, state_in};
 ghost use Rattle.capi.specs.Imaged.{answer_number, check_number, image_kept, ImageMeets};
@@ -73,6 +74,22 @@ pub extern "C" fn yoldrim_block_write(samples: &[u8], out: &mut [u8]) -> i32
     ensures { (result ≡ answer_number (block_write samples.now out.old)) × (out.new ≡ block_write_memory samples.now out.old) }
 {
     number(block::write(samples, out))
+}
+
+// Appends a sample to those of the block, and answers how many they are then.
+#[unsafe(no_mangle)]
+pub extern "C" fn yoldrim_block_append(block: &mut [u8], sample: &[u8]) -> i32
+    ensures { (result ≡ answer_number (append block.old sample.now)) × (block.new ≡ append_memory block.old sample.now) }
+{
+    number(block::append(block, sample))
+}
+
+// Strikes the last sample out of those of the block, and answers how many they are then.
+#[unsafe(no_mangle)]
+pub extern "C" fn yoldrim_block_strike_out(block: &mut [u8]) -> i32
+    ensures { (result ≡ answer_number (strike_out block.old)) × (block.new ≡ strike_out_memory block.old) }
+{
+    number(block::strike_out(block))
 }
 
 // Answers 0 for the record of a message, or minus the number that refuses it.

@@ -6,6 +6,8 @@ use Rattle.sample.specs.Examples.{SampleExamples}
 use Rattle.filter.specs.Examples.{FilterExamples, FilterLaws}
 use Rattle.message.specs.Examples.{MessageExamples}
 use Rattle.block.specs.Examples.{BlockExamples}
+use Rattle.block.specs.LastSampleExamples.{LastSampleExamples}
+use Rattle.block.specs.LastSampleInWords.{LastSampleInWords}
 use Rattle.history.specs.State as State
 use Rattle.history.specs.InWords.{InWords}
 use Rattle.history.specs.BenchStops.{BenchStops}
@@ -31,6 +33,9 @@ pub record Document : Type 0 where
   pub message : MessageExamples
   -- "The block and its calls"
   pub block : BlockExamples
+  -- and its last sample, after CR 6
+  pub last_sample : LastSampleExamples
+  pub last_sample_in_words : LastSampleInWords
   -- "What is turned down"
   pub order : OrderOfChecks
   pub ranges : RangeExamples

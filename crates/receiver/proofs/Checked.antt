@@ -11,7 +11,7 @@ use lib.Ieee.Fits.{and_r}
 use Rattle.std.specs.List.{count_by}
 use Rattle.wire.specs.declared.Refusal.{Refusal}
 use Rattle.wire.specs.Outcome.{first_fault, accepted, refused, outcome, number_of}
-use Rattle.wire.proofs.FirstFault.{outcome_accepted, outcome_refused, accepted_clear, refused_number, append_clear, append_failing, clear_first, clear_append, numbered}
+use Rattle.wire.proofs.FirstFault.{outcome_accepted, outcome_refused, accepted_clear, refused_number, append_clear, append_failing, clear_first, clear_append, answered_refused}
 use Rattle.wire.proofs.Tests.{true_holds}
 use Rattle.message.specs.declared.Message.{Message}
 use Rattle.message.specs.Message.{message_of, derived_fit, admits, message_checks, message_read}
@@ -48,9 +48,7 @@ module _ (last tick sender : ℕ) (held : List Received) (bytes : List ℕ) wher
     -- what its arrival is refused for
     pub arrival_refused : (x : Refusal) → number_of x ≡ first_fault (arrival_checks last held (record { sender = sender; arrival = tick; message = m }))
         → refused (number_of x) ≡ outcome fault value
-    arrival_refused x e =
-        let k = e ∙ checks_left in
-        sym (outcome_refused fault value (λ z. numbered x (k ∙ z)) ∙ ap refused (sym k))
+    arrival_refused x e = answered_refused fault value x (e ∙ checks_left)
 
     pub arrival_accepted : 0 ≡ first_fault (arrival_checks last held (record { sender = sender; arrival = tick; message = m }))
         → accepted (record { sender = sender; arrival = tick; message = m }) ≡ outcome fault value

@@ -55,6 +55,10 @@ abbrev pub Numbered : List Check → Type 0
 Numbered [] = Unit {0}
 Numbered (c ∷ cs) = (c.number ≡ 0 → ⊥) × Numbered cs
 
+pub numbered_append : (cs ds : List Check) → Numbered cs → Numbered ds → Numbered (cs ++ ds)
+numbered_append [] ds h k = k
+numbered_append (c ∷ cs) ds h k = (h.0, numbered_append cs ds h.1 k)
+
 -- checks behind checks of which none fails, and behind checks of which one does
 pub append_clear : (cs ds : List Check) → Numbered cs → first_fault cs ≡ 0 → first_fault (cs ++ ds) ≡ first_fault ds
 unfolding first_fault
@@ -102,6 +106,10 @@ module _ (fault : ℕ) (bytes out : List ℕ) where
 pub numbered : (r : Refusal) → number_of r ≡ 0 → ⊥
 numbered r e = grind arith
 
+-- a call without output that its first failing check refuses
+pub answered_refused : {A : Type 0} (fault : ℕ) (value : A) (r : Refusal) → number_of r ≡ fault → refused (number_of r) ≡ outcome fault value
+answered_refused fault value r h = ap refused h ∙ sym (outcome_refused fault value (λ z. numbered r (h ∙ z)))
+
 -- each check has a refusal
 abbrev pub Named : List Check → Type 0
 Named [] = Unit {0}
@@ -119,7 +127,7 @@ answer_made (c ∷ cs) value h = go c.fails (answer_made cs value h.1)
   where
     go : (b : Bool) → (r : Answer) × (answered r ≡ outcome (first_fault cs) value)
         → (r : Answer) × (answered r ≡ outcome (cond b c.number (first_fault cs)) value)
-    go true rest = (Err h.0.0, ap refused h.0.1 ∙ sym (outcome_refused c.number value (λ z. numbered h.0.0 (h.0.1 ∙ z))))
+    go true rest = (Err h.0.0, answered_refused c.number value h.0.0 h.0.1)
     go false rest = rest
 
 -- what `?` hands on is the refusal that it met

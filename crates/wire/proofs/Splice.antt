@@ -7,7 +7,7 @@ use native.Mathlib.Nat.{add-zero, zero-add, le_refl, add_assoc}
 use native.Mathlib.Omega.{arith}
 use borrow.Author.Tests.{le-leb, lt-leb}
 use lib.ListN.{length, take, drop, take-append-drop, length-append, drop_of_length-le}
-use lib.Seq.{paste, take-length, length-paste, take-paste, drop-paste, drop-drop, take-append_seam}
+use lib.Seq.{paste, take-length, length-paste, take-paste, drop-paste, drop-drop, take-append_seam, drop-append_seam}
 use Rattle.wire.specs.Memory.{splice, overlay}
 
 -- bytes that do not fit leave the memory as it is
@@ -92,3 +92,13 @@ overlay_whole bs xs h =
 
 pub splice_whole : (xs bs : List ℕ) → length bs ≡ length xs → splice xs 0 bs ≡ bs
 splice_whole xs bs h = splice-overlay xs bs (omega arith) ∙ overlay_whole bs xs h
+
+-- bytes in the place of as many others
+pub splice_middle : (before old behind new : List ℕ) → length new ≡ length old → splice (before ++ old ++ behind) (length before) new ≡ before ++ new ++ behind
+splice_middle before old behind new h =
+    let m = length-append (before ++ old) behind in
+    let n = length-append before old in
+    let place : length before + length new ≡ length (before ++ old) = omega arith in
+    splice_parts (before ++ old ++ behind) (length before) new (omega arith)
+    ∙ ap (λ (l : List ℕ). take (length before) l ++ new ++ drop (length before + length new) (before ++ old ++ behind)) (append_assoc before old behind)
+    ∙ rw (take-append_seam before (old ++ behind), place, drop-append_seam (before ++ old) behind) refl

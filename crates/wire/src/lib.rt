@@ -34,6 +34,7 @@ pub enum Refusal {
     TickBelowLast = 31,
     NotNewer = 32,
     NinthSender = 33,
+    OnlySample = 34,
 }
 
 impl From<Refusal> for u8 {

@@ -12,14 +12,14 @@
 use std::process::ExitCode;
 use yoldrim_tests::comparison::Comparison;
 use yoldrim_tests::days::{self, Day, Style};
-use yoldrim_tests::faults::{self, Change, Trial};
+use yoldrim_tests::faults::{self, flipped, Change, Trial};
 use yoldrim_tests::random::Random;
 use yoldrim_tests::reference::*;
 use yoldrim_tests::scenes::{self, stopped, Scene};
 use yoldrim_tests::tally::{self, Call, Tally};
 #[cfg(library)]
 use yoldrim_tests::{ffi, layout, receiver};
-use yoldrim_tests::{plain, printing};
+use yoldrim_tests::{lent_block, plain, printing};
 
 const DEFAULT_ROUNDS: u64 = 250;
 const SEED: u64 = 0x01;
@@ -93,6 +93,7 @@ fn compare(comparison: &mut Comparison, rounds: u64) -> ExitCode {
     message_faults(comparison);
     flipped_bits(comparison);
     junk(comparison);
+    lent_block::check(comparison);
     ten_million(comparison);
     random_days(comparison, rounds);
     report(comparison)
@@ -225,7 +226,9 @@ fn alone_and_in_pairs(
     for first in 0..total {
         for second in first..total {
             let now = changes(comparison);
-            let trial = good(comparison).changed(&[now[first], now[second]], is_block);
+            let both = [now[first], now[second]];
+            let made = if first == second { &both[..1] } else { &both[..] };
+            let trial = good(comparison).changed(made, is_block);
             comparison.call(call, &trial.input, trial.lent);
         }
     }
@@ -291,12 +294,6 @@ fn message_faults(comparison: &mut Comparison) {
 
 // ----------------------------------------------------------- damaged and junk
 
-fn flipped(bytes: &[u8], bit: usize) -> Vec<u8> {
-    let mut bytes = bytes.to_vec();
-    bytes[bit / 8] ^= 1 << (bit % 8);
-    bytes
-}
-
 /// Every single bit of some blocks and records, flipped. A block's check is
 /// once left as it is and once made good, so that the samples are reached.
 fn flipped_bits(comparison: &mut Comparison) {
@@ -330,7 +327,7 @@ fn flipped_bits(comparison: &mut Comparison) {
 /// Bytes, lengths and lent memory at random, and records of random fields.
 fn junk(comparison: &mut Comparison) {
     comparison.restart("junk", SEED);
-    for _ in 0..20_000 {
+    for _ in 0..28_000 {
         let call = comparison.random.pick(&Call::ALL);
         let length = comparison.random.pick(&[0, 20, 32, 100, 500, 512, 600]);
         let mut input = vec![0; length];

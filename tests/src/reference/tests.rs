@@ -316,6 +316,139 @@ fn block_reader_and_writer_undo_each_other() {
     assert!(out[samples.len()..].iter().all(|&byte| byte == 9));
 }
 
+/// A block of so many stopped samples, their ticks from `first` on.
+fn block_from(first: u32, count: u32) -> [u8; BLOCK_BYTES] {
+    let samples: Vec<u8> = (first..first + count).flat_map(|t| stopped(t).to_bytes()).collect();
+    block_of(&samples)
+}
+
+/// A block of 512 bytes that begins with these.
+fn block_with(start: &[u8]) -> [u8; BLOCK_BYTES] {
+    let mut block = [0; BLOCK_BYTES];
+    block[..start.len()].copy_from_slice(start);
+    block
+}
+
+#[test]
+fn a_sample_appended_and_struck_out_by_hand() {
+    // Count 1 at place 4, gear and switches 3 at 18 and 19: 5 + 57 + 60 = 0x7A. With the
+    // second sample the count adds 5 more, its tick 1 at place 32 adds 33, its gear and
+    // switches 3 at 38 and 39 add 117 and 120: 122 + 5 + 33 + 117 + 120 = 397 = 0x018D.
+    #[rustfmt::skip]
+    let one = block_with(&[
+        0, 0, 0, 0, 1, 0, 0, 0, 0x7A, 0, 0, 0,
+        0, 0, 0, 0, 0, 0, 3, 3, 0, 0, 0, 0, 0, 0, 0, 0, 0, 0, 0, 0,
+    ]);
+    #[rustfmt::skip]
+    let two = block_with(&[
+        0, 0, 0, 0, 2, 0, 0, 0, 0x8D, 1, 0, 0,
+        0, 0, 0, 0, 0, 0, 3, 3, 0, 0, 0, 0, 0, 0, 0, 0, 0, 0, 0, 0,
+        1, 0, 0, 0, 0, 0, 3, 3, 0, 0, 0, 0, 0, 0, 0, 0, 0, 0, 0, 0,
+    ]);
+    let mut block = one;
+    assert_eq!(append_sample(&mut block, &two[32..52]), Ok(2));
+    assert_eq!(block, two);
+    assert_eq!(strike_out_sample(&mut block), Ok(1));
+    assert_eq!(block, one);
+    assert_eq!(strike_out_sample(&mut block), Err(Refusal(34)));
+    assert_eq!(block, one);
+}
+
+#[test]
+fn a_sample_of_zeros_appended_by_hand() {
+    // Of zeros but for the count: 1 at place 4 is 5, 2 there is 10.
+    let one = block_with(&[0, 0, 0, 0, 1, 0, 0, 0, 5]);
+    let two = block_with(&[0, 0, 0, 0, 2, 0, 0, 0, 10]);
+    let mut block = one;
+    assert_eq!(append_sample(&mut block, &[0; SAMPLE_BYTES]), Ok(2));
+    assert_eq!(block, two);
+    assert_eq!(strike_out_sample(&mut block), Ok(1));
+    assert_eq!(block, one);
+}
+
+#[test]
+fn the_twenty_fifth_sample_by_hand() {
+    // Its bytes lie at the places 492 to 511, the last of the block. Gear and switches 3
+    // at 498 and 499 weigh 3 * 499 and 3 * 500, the tick 0x5D at 492 weighs 93 * 493, the
+    // count 5: 1,497 + 1,500 + 45,849 + 5.
+    let mut block = block_from(69, 24);
+    let before = block;
+    let sample = stopped(93).to_bytes();
+    assert_eq!(append_sample(&mut block, &sample), Ok(25));
+    assert_eq!(u32_at(&block, 8), u32_at(&before, 8) + 48_851);
+    assert_eq!((block[4], &block[..4], &block[492..]), (25, &[69, 0, 0, 0][..], &sample[..]));
+    assert_eq!(append_sample(&mut block, &stopped(94).to_bytes()), Err(Refusal(9)));
+    assert_eq!(block, block_from(69, 25));
+    assert_eq!(strike_out_sample(&mut block), Ok(24));
+    assert_eq!(block, before);
+    assert_eq!(block[492..], [0; SAMPLE_BYTES]);
+}
+
+#[test]
+fn what_is_appended_may_have_any_tick() {
+    let mut block = block_from(70, 1);
+    for (tick, count) in [(70, 2), (0, 3), (71, 4), (9_999_999, 5), (u32::MAX, 6)] {
+        assert_eq!(append_sample(&mut block, &stopped(tick).to_bytes()), Ok(count));
+        assert_eq!(u32_at(&block, 0), 70);
+    }
+    for count in [5, 4, 3, 2, 1] {
+        assert_eq!(strike_out_sample(&mut block), Ok(count));
+    }
+    assert_eq!(block, block_from(70, 1));
+}
+
+/// The refusals of appending and striking out; both leave the block as it was lent.
+fn refusals(block: &[u8], sample: &[u8]) -> [i32; 2] {
+    let mut copies = [block.to_vec(), block.to_vec()];
+    let [one, other] = &mut copies;
+    let answers = [append_sample(one, sample), strike_out_sample(other)];
+    let numbers = answers.map(|answer| answer.err().map_or(0, |refusal| refusal.0));
+    for (copy, number) in copies.iter().zip(numbers) {
+        assert!(number == 0 || copy == block);
+    }
+    numbers
+}
+
+#[test]
+fn appending_and_striking_out_refuse_in_their_order() {
+    let mut block = block_from(70, 25);
+    let good = stopped(95).to_bytes();
+    let bad = Sample { speed: 16_384, ..stopped(95) }.to_bytes();
+    assert_eq!(refusals(&block, &good), [9, 0]);
+    assert_eq!(refusals(&block, &bad), [3, 0]);
+    // Heading 3,602 in the second sample, gear 5 in the last.
+    block[BLOCK_HEADER + 20 + 10..][..2].copy_from_slice(&3_602_u16.to_le_bytes());
+    block[BLOCK_HEADER + 24 * 20 + 6] = 5;
+    let seal = |block: &mut [u8]| {
+        let check = block_check(block).to_le_bytes();
+        block[8..12].copy_from_slice(&check);
+    };
+    seal(&mut block);
+    assert_eq!(refusals(&block, &bad), [7, 7]);
+    block[0] += 1;
+    seal(&mut block);
+    assert_eq!(refusals(&block, &bad), [12, 12]);
+    block[8] ^= 1;
+    assert_eq!(refusals(&block, &bad), [11, 11]);
+    block[5] = 1;
+    assert_eq!(refusals(&block, &bad), [10, 10]);
+    block[4] = 26;
+    assert_eq!(refusals(&block, &bad), [9, 9]);
+    assert_eq!(refusals(&block, &bad[..19]), [1, 9]);
+    assert_eq!(refusals(&block[..511], &bad), [1, 1]);
+}
+
+#[test]
+fn striking_out_the_only_sample_is_refused_last() {
+    let mut block = block_from(70, 1);
+    assert_eq!(refusals(&block, &stopped(71).to_bytes()), [0, 34]);
+    block[8] ^= 1;
+    assert_eq!(refusals(&block, &stopped(71).to_bytes()), [11, 11]);
+    let bad = block_of(&Sample { road: 7, ..stopped(70) }.to_bytes());
+    assert_eq!(refusals(&bad, &stopped(71).to_bytes()), [6, 6]);
+    assert_eq!(refusals(&bad, &[]), [1, 6]);
+}
+
 #[test]
 fn message_reader_and_writer_undo_each_other() {
     let history = played(&scenes::bench_stops()[0].samples);
