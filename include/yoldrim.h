@@ -4,10 +4,10 @@
  * not null, not even with the length 0, and the pieces that one call is given do not overlap. No call keeps a pointer, allocates memory,
  * or stops the program.
  *
- * Every call answers an int32_t: not negative, the count or the answer that its comment names; negative, minus the number of a refusal,
- * those of document 01, "What is turned down", 31 to 33 of a receiver (CR 4), and 34 of striking a sample out of a block (CR 6). A refused
- * call leaves all lent memory as it was. An accepted one writes the start of `out` and leaves the rest as lent; one that changes an engine,
- * a receiver or a block writes it in place.
+ * Every call answers an int32_t, but yoldrim_busiest_stretch an int64_t: not negative, the count or the answer that its comment names;
+ * negative, minus the number of a refusal, those of document 01, "What is turned down", 31 to 33 of a receiver (CR 4), 34 of striking a
+ * sample out of a block (CR 6), and 35 and 36 of the busiest stretch (CR 7). A refused call leaves all lent memory as it was. An accepted
+ * one writes the start of `out` and leaves the rest as lent; one that changes an engine, a receiver or a block writes it in place.
  *
  * Formats (samples, blocks, messages: little-endian) are those of document 01, with what change request CR 1 adds: happening bit 4 of a
  * sample says that a risk mitigation function is active, refusal 5 covers bits 5 to 7, and warning 4 is that for an unresponsive driver,
@@ -122,6 +122,15 @@ int32_t yoldrim_block_strike_out(uint8_t *block, size_t block_bytes);
 
 /* Answers 0 for the bytes of a message, -13 for a wrong length, -14 for a field that no message has. */
 int32_t yoldrim_message_check(const uint8_t *message, size_t message_bytes);
+
+/* Finds the busiest stretch in a list of message records (CR 7), which lie one behind the other: the largest number of messages whose
+ * reference ticks lie in `width` ticks on end, each message counted, also those of one tick. Answers this number, which may need more than
+ * 32 bits, and writes to `first` the earliest first tick of such a stretch that is some message's reference tick. Answers 0 for an empty
+ * list, whose stretches have no such tick, and leaves `first` as it was. The width is 1 to 10,000,000. Refusals in the order 13 for a
+ * length that is no multiple of YOLDRIM_MESSAGE_BYTES, 14 for a record, 35 for a reference tick below the one before, and 36 for another
+ * width; each looks at the whole list before the next. Each record is read three times at most, and no memory is taken beside the list.
+ * examples/busiest.c shows the use. */
+int64_t yoldrim_busiest_stretch(const uint8_t *records, size_t records_bytes, uint32_t width, uint32_t *first);
 
 /* The receiver (CR 4): what other vehicles warn of. It holds one message for each of up to eight senders, each known by a number of 32
  * bits, and lives in memory that the caller lends: an image of this many bytes, no more and no fewer, with no pointer in it. Its bytes,

@@ -1,6 +1,7 @@
 #!/usr/bin/env bash
 # All tests: the proofs with the must-fail edits and the programs (rt ci), the example recordings, the C examples, and the
-# comparison of the static library with the second implementation. The last line is that of rt ci, printed only when all passed.
+# comparison of the static library and of the programs with the second implementation. The last line is that of rt ci, printed only
+# when all passed.
 # Usage: tests/all.sh [ROUNDS], the number of rounds of random days in the comparison.
 set -euo pipefail
 cd "$(dirname "$0")/.."
@@ -32,7 +33,7 @@ have() {
 
 make --no-print-directory lib
 if have cc "the C examples"; then
-    for example in stop receive; do
+    for example in stop receive busiest; do
         cc -O2 -Wall -Wextra -Werror -I target -o "target/$example" "examples/$example.c" target/libyoldrim.a
         "target/$example"
     done
@@ -53,6 +54,8 @@ if have cargo "the comparison with the second implementation"; then
         target/bin/yoldrim < target/day.bin | diff - target/day.txt
         echo "printed day $seed: as the second implementation"
     done
+    make --no-print-directory target/bin/records target/bin/planner
+    bash tests/planner.sh
 fi
 
 tail -n 1 "$log"

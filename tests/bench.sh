@@ -1,6 +1,6 @@
 #!/usr/bin/env bash
-# The benchmark: the proved program against the plain engine on one recording, the stack used, then nanoseconds a sample through the
-# library's calls.
+# The benchmark: the proved program against the plain engine on one recording, the stack used, then nanoseconds a sample, and a record of
+# the busiest stretch, through the library's calls.
 # Usage: tests/bench.sh [TICKS]
 set -euo pipefail
 cd "$(dirname "$0")/.."

@@ -7,6 +7,8 @@ use crate::tally::{Call, Tally};
 use crate::unit::Unit;
 use std::process::exit;
 
+mod busiest;
+
 /// Bytes on either side of the lent memory that nobody may touch.
 const GUARD: usize = 64;
 

@@ -37,6 +37,12 @@ extern "C" {
     ) -> i32;
     fn yoldrim_block_strike_out(block: *mut u8, block_len: usize) -> i32;
     fn yoldrim_message_check(message: *const u8, message_len: usize) -> i32;
+    fn yoldrim_busiest_stretch(
+        records: *const u8,
+        records_bytes: usize,
+        width: u32,
+        first: *mut u32,
+    ) -> i64;
     fn yoldrim_receiver_empty(receiver: *mut u8, receiver_len: usize) -> i32;
     fn yoldrim_receive(
         receiver: *mut u8,
@@ -178,6 +184,12 @@ impl Unit for Library {
     fn message_check(&self, message: &[u8]) -> i32 {
         // SAFETY: pointer and length are those of one live slice.
         unsafe { yoldrim_message_check(message.as_ptr(), message.len()) }
+    }
+
+    fn busiest_stretch(&self, records: &[u8], width: u32, first: &mut u32) -> i64 {
+        // SAFETY: pointer and length are those of one live slice; the other pointer is to
+        // a live, exclusive number.
+        unsafe { yoldrim_busiest_stretch(records.as_ptr(), records.len(), width, first) }
     }
 
     fn image(&self) -> &[u8] {

@@ -2,6 +2,7 @@
 //! unit: a second implementation of documents 01 and 02 in Rust, a comparison
 //! of it with the proved static library, and a benchmark.
 
+pub mod busiest;
 pub mod comparison;
 pub mod days;
 pub mod faults;

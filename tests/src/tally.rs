@@ -1,6 +1,7 @@
 //! How often each rule, refusal and value occurred in a run. Every row is
 //! declared beforehand, so one that never occurred can be named.
 
+use crate::busiest;
 use crate::lent_block;
 use crate::reference::*;
 use std::collections::HashMap;
@@ -167,6 +168,7 @@ impl Tally {
         tally.declare_fields();
         tally.declare_calls();
         lent_block::tally::declare(&mut tally);
+        busiest::tally::declare(&mut tally);
         tally
     }
 

@@ -28,6 +28,10 @@ pub trait Unit {
     /// 0 if the message reader takes the record.
     fn message_check(&self, message: &[u8]) -> i32;
 
+    /// The busiest stretch of message records (CR 7): the number of messages in it, and
+    /// its first tick in `first`, which is left as it was where the list is empty.
+    fn busiest_stretch(&self, records: &[u8], width: u32, first: &mut u32) -> i64;
+
     /// The engine's bytes where the caller can see them, else nothing. After a
     /// refusal they must be as before.
     fn image(&self) -> &[u8] {

@@ -1,4 +1,5 @@
 pub mod Numbers
+pub mod Stretches
 pub mod Counts
 pub mod ImageCalls
 pub mod ImageDemandHolds

@@ -11,7 +11,8 @@ ghost use Rattle.block.specs.Block.{block_read, block_read_memory, block_write, 
 ghost use Rattle.block.specs.LastSample.{append, append_memory, strike_out, strike_out_memory};
 ghost use Rattle.calls.specs.Calls.{sample_call, block_call};
 ghost use Rattle.image.specs.Image.{is_image, state_in};
-ghost use Rattle.capi.specs.Imaged.{answer_number, check_number, image_kept, ImageMeets};
+ghost use Rattle.busiest.specs.Busiest.{stretch};
+ghost use Rattle.capi.specs.Imaged.{answer_number, check_number, StretchMeets, image_kept, ImageMeets};
 ghost use Rattle.capi.specs.ImageDemand.{FreshImaged};
 
 use engine::Engine;
@@ -100,6 +101,21 @@ pub extern "C" fn yoldrim_message_check(bytes: &[u8]) -> i32
     match message::read(bytes) {
         Ok(_) => 0,
         Err(refusal) => minus(refusal),
+    }
+}
+
+// Finds the busiest stretch of `width` ticks in a list of message records, and answers how many messages lie in it. A list may have more
+// than a number of 32 bits. Where there are none, `first` stays as it was.
+#[unsafe(no_mangle)]
+pub extern "C" fn yoldrim_busiest_stretch(list: &[u8], width: u32, first: &mut u32) -> i64
+    ensures { StretchMeets (stretch list.now width) first.old result first.new }
+{
+    match busiest::stretch(list, width) {
+        Ok(found) => {
+            *first = found.first.unwrap_or(*first);
+            found.messages as i64
+        }
+        Err(refusal) => i64::from(minus(refusal)),
     }
 }
 

@@ -88,9 +88,13 @@ field_tests m =
 unfoldable pub admits : Message → Bool
 admits m = all_hold (field_tests m)
 
+-- "14 message field", of a record of 32 bytes
+abbrev pub message_fields_check : List ℕ → Check
+message_fields_check s = check 14 (not (derived_fit s && admits (message_of s)))
+
 -- "the message reader by 13, 14"
 abbrev pub message_checks : List ℕ → List Check
-message_checks s = check 13 (not (eqb (length s) 32)) ∷ check 14 (not (derived_fit s && admits (message_of s))) ∷ []
+message_checks s = check 13 (not (eqb (length s) 32)) ∷ message_fields_check s ∷ []
 
 unfoldable pub message_read : List ℕ → Outcome Message
 message_read s = outcome (first_fault (message_checks s)) (message_of s)

@@ -24,6 +24,8 @@ pub struct Message {
     pub validity: u16,
 }
 
+// Put into its callers always: one that reads many records would take twice as long by a call and the message in memory.
+#[inline(always)]
 pub fn read(bytes: &[u8]) -> Result<Message, Refusal>
     ensures { Found bytes.now result }
 {
@@ -103,7 +105,8 @@ pub fn encoded(m: Message) -> [u8; 32]
 }
 
 impl Message {
-    // Whether each field has a value that refusal 14 lets pass.
+    // Whether each field has a value that refusal 14 lets pass. Put into its callers always, as `read` is.
+    #[inline(always)]
     #[tactic(auto, unfolding(crate::specs::Message::admits, crate::specs::Message::field_tests, wire::specs::Tests::all_hold, warnings::specs::Warnings::validity_of))]
     pub fn is_admitted(self) -> bool
         ensures { result ≡ admits self }

@@ -3,7 +3,6 @@ pub mod RunText
 pub mod ProgramHolds
 pub mod ExamplesHold
 pub mod DemandHolds
-pub mod LinePut
 pub mod TextBegins
 pub mod Writing
 pub mod EndPrinted

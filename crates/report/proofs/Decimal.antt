@@ -101,7 +101,10 @@ library_decimal n h =
     let few : length (library.decimal n) ≤ suc n = omega (arith, length-decimal-le_succ n h) in
     sym (decimal_from_appends digits last_digit_behind (suc n) n h few)
 
--- so a number of 32 bits has at most ten, and one of 8 bits at most three
+-- so a number of 64 bits has at most twenty, one of 32 bits at most ten, and one of 8 bits at most three
+pub decimal_at_most_20 : (n : ℕ) → n < 2 ^ 64 → length (decimal n) ≤ 20
+decimal_at_most_20 n h = rw (← library_decimal n h) (length-decimal-le 20 n (omega arith) (omega arith) h)
+
 pub decimal_at_most_10 : (n : ℕ) → n < 2 ^ 32 → length (decimal n) ≤ 10
 decimal_at_most_10 n h = rw (← library_decimal n (omega arith)) (length-decimal-le 10 n (omega arith) (omega arith) (omega arith))
 

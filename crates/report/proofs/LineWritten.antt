@@ -7,11 +7,12 @@ use borrow.Author.Tests.{lt-ltb, le-ltb}
 use lib.ListN.{length}
 use Rattle.wire.specs.Memory.{overlay}
 use Rattle.wire.specs.Outcome.{first_fault, answered}
-use Rattle.std.specs.Prelude.{Ok, Err}
+use Rattle.std.specs.Prelude.{Ok, Err, None, Some}
 use Rattle.wire.specs.declared.Refusal.TheVariants.{OutputRoom}
 use Rattle.wire.proofs.FirstFault.{call_refused, call_accepted}
 use Rattle.message.specs.declared.Message.{Message}
-use Rattle.report.specs.Lines.{ascii, decimal, line, letter_of, message_line, closing_line, refusal_line, line_fault, line_write, line_memory}
+use Rattle.busiest.specs.declared.Busiest.{Busiest}
+use Rattle.report.specs.Lines.{ascii, decimal, line, letter_of, message_line, closing_line, from_tick, busiest_line, refusal_line, line_fault, line_write, line_memory}
 
 -- ---- the answer
 
@@ -34,6 +35,14 @@ message_bytes m = simp append_assoc
 pub closing_bytes : (ticks messages : ℕ) → decimal ticks ++ ascii " ticks " ++ decimal messages ++ ascii " messages\n" ≡ closing_line ticks messages
 unfolding closing_line line ascii
 closing_bytes ticks messages = simp append_assoc
+
+pub busiest_bytes : (b : Busiest) (tick : ℕ) → b.first ≡ Some tick → decimal b.messages ++ ascii " messages" ++ ascii " from tick " ++ decimal tick ++ ascii "" ++ ascii "\n" ≡ busiest_line b
+unfolding busiest_line from_tick line ascii
+busiest_bytes b tick e = rw e (simp append_assoc)
+
+pub no_messages_bytes : (b : Busiest) → b.first ≡ None → decimal b.messages ++ ascii " messages" ++ ascii "\n" ≡ busiest_line b
+unfolding busiest_line from_tick line ascii
+no_messages_bytes b e = rw e (simp append_assoc)
 
 pub refusal_bytes : (number : ℕ) → ascii "refused " ++ decimal number ++ ascii "\n" ≡ refusal_line number
 unfolding refusal_line line ascii

@@ -1,9 +1,9 @@
--- The program's lines by examples, after document 01, "Bench stops", and what is said of all numbers in them.
+-- The programs' lines by examples, after document 01, "Bench stops", and document 02, CR 7, and what is said of all numbers in them.
 -- Assumes nothing.
-use Rattle.std.specs.Prelude.{ℕ, ◌<◌, ◌≡◌, [], ◌∷◌, ◌++◌, map, pos, get_or, replicate}
+use Rattle.std.specs.Prelude.{ℕ, ◌<◌, ◌≡◌, [], ◌∷◌, ◌++◌, map, pos, get_or, replicate, None, Some}
 use Rattle.wire.specs.Outcome.{accepted, refused}
 use Rattle.message.specs.declared.Message.{Message}
-use Rattle.report.specs.Lines.{ascii, digit, decimal, Digits, value_from, message_line, closing_line, refusal_line, line_write, line_memory}
+use Rattle.report.specs.Lines.{ascii, digit, decimal, Digits, value_from, message_line, closing_line, busiest_line, refusal_line, line_write, line_memory}
 
 -- a message with these numbers; its other fields have others
 unfoldable pub numbered : ℕ → ℕ → ℕ → ℕ → ℕ → Message
@@ -29,6 +29,11 @@ pub record LineExamples : Type 0 where
   -- "T ticks M messages", "for T samples taken and M messages given in all (0 and 0 for empty input)"
   pub closing : closing_line 4321 65 ≡ ascii "4321 ticks 65 messages\n"
   pub empty_input : closing_line 0 0 ≡ ascii "0 ticks 0 messages\n"
+  -- the busiest stretch's number and first tick; an empty list "gives zero and no tick"
+  pub stretch : busiest_line (record { messages = 12; first = Some 34567 }) ≡ ascii "12 messages from tick 34567\n"
+  pub from_the_start : busiest_line (record { messages = 1; first = Some 0 }) ≡ ascii "1 messages from tick 0\n"
+  pub empty_list : busiest_line (record { messages = 0; first = None }) ≡ ascii "0 messages\n"
+  pub largest : busiest_line (record { messages = 18446744073709551615; first = Some 4294967295 }) ≡ ascii "18446744073709551615 messages from tick 4294967295\n"
   -- "refused", "a space and the number"
   pub refusals : map refusal_line (1 ∷ 9 ∷ 10 ∷ 23 ∷ []) ≡ ascii "refused 1\n" ∷ ascii "refused 9\n" ∷ ascii "refused 10\n" ∷ ascii "refused 23\n" ∷ []
   -- "gives exactly: 10 N 3 1 1", "25 ticks 1 messages"

@@ -1,12 +1,13 @@
--- The lines that the program prints, as bytes of ASCII, after document 01, "Bench stops".
+-- The lines that the programs print, as bytes of ASCII, after document 01, "Bench stops"; document 02, CR 7, has the numbers of the busiest stretch.
 -- Assumes nothing.
-use Rattle.std.specs.Prelude.{ℕ, zero, suc, ◌+◌, ◌-◌, ◌*◌, ◌/◌, ◌%◌, ◌≤◌, cond, List, [], ◌∷◌, ◌++◌, ltb, eqb, length}
+use Rattle.std.specs.Prelude.{ℕ, zero, suc, ◌+◌, ◌-◌, ◌*◌, ◌/◌, ◌%◌, ◌≤◌, cond, List, [], ◌∷◌, ◌++◌, ltb, eqb, length, Option, None, Some}
 use Prim.Native.Char.{code}
 use Prim.Native.String.{String, [] as empty, ◌∷◌ as ◌then◌}
 use Rattle.wire.specs.Memory.{memory}
 use Rattle.wire.specs.Outcome.{check, first_fault, Outcome, outcome}
 use Rattle.warnings.specs.Warnings.{new, update, cancel}
 use Rattle.message.specs.declared.Message.{Message}
+use Rattle.busiest.specs.declared.Busiest.{Busiest}
 
 -- the bytes of a text
 unfoldable pub ascii : String → List ℕ
@@ -63,6 +64,15 @@ message_line m =
 -- "T ticks M messages", "for T samples taken and M messages given in all"
 unfoldable pub closing_line : ℕ → ℕ → List ℕ
 closing_line ticks messages = line (decimal ticks ∷ ascii "ticks" ∷ decimal messages ∷ ascii "messages" ∷ [])
+
+-- the words for the tick that a stretch begins with, none where there is no tick
+unfoldable pub from_tick : Option ℕ → List (List ℕ)
+from_tick None = []
+from_tick (Some tick) = ascii "from" ∷ ascii "tick" ∷ decimal tick ∷ []
+
+-- how many messages the busiest stretch has, and where it begins
+unfoldable pub busiest_line : Busiest → List ℕ
+busiest_line b = line (decimal b.messages ∷ ascii "messages" ∷ from_tick b.first)
 
 -- "refused", "a space and the number"
 unfoldable pub refusal_line : ℕ → List ℕ

@@ -2,7 +2,7 @@
 -- Assumes nothing.
 use Rattle.std.specs.Prelude.{ℕ, Bool, cond, List, [], ◌∷◌, eqb, Result, Ok, Err}
 use Rattle.wire.specs.declared.Refusal.{Refusal}
-use Rattle.wire.specs.declared.Refusal.TheVariants.{InputLength, OutputRoom, Speed, Gear, Happenings, Road, Heading, Position, Count, NotZero, CheckSum, FirstTick, MessageLength, MessageFields, EngineState, TicksUsedUp, TickOutOfTurn, TickBelowLast, NotNewer, NinthSender, OnlySample}
+use Rattle.wire.specs.declared.Refusal.TheVariants.{InputLength, OutputRoom, Speed, Gear, Happenings, Road, Heading, Position, Count, NotZero, CheckSum, FirstTick, MessageLength, MessageFields, EngineState, TicksUsedUp, TickOutOfTurn, TickBelowLast, NotNewer, NinthSender, OnlySample, ReferenceBelow, Width}
 
 -- a check: its number in document 01, and whether it fails
 pub record Check : Type 0 where
@@ -25,7 +25,7 @@ pub data Outcome (A : Type 0) : Type 0 where
 unfoldable pub outcome : {A : Type 0} → ℕ → A → Outcome A
 outcome fault value = cond (eqb fault 0) (accepted value) (refused fault)
 
--- the number of a refusal, "What is turned down"; 31 to 33 are the receiver's (CR 4), 34 that of striking a sample out (CR 6)
+-- the number of a refusal, "What is turned down"; 31 to 33 are the receiver's (CR 4), 34 that of striking a sample out (CR 6), 35 and 36 those of the busiest stretch (CR 7)
 abbrev pub number_of : Refusal → ℕ
 number_of InputLength = 1
 number_of OutputRoom = 2
@@ -48,6 +48,8 @@ number_of TickBelowLast = 31
 number_of NotNewer = 32
 number_of NinthSender = 33
 number_of OnlySample = 34
+number_of ReferenceBelow = 35
+number_of Width = 36
 
 -- what a call answers that writes records: how many it wrote, or why it wrote none
 abbrev pub Answer : Type 0

@@ -35,6 +35,8 @@ pub enum Refusal {
     NotNewer = 32,
     NinthSender = 33,
     OnlySample = 34,
+    ReferenceBelow = 35,
+    Width = 36,
 }
 
 impl From<Refusal> for u8 {

@@ -1,15 +1,17 @@
 //! The benchmark, and the programs it compares.
 //!
-//!     bench                               nanoseconds a sample, and how they grow
+//!     bench                               nanoseconds a sample or record, and how they grow
 //!     bench generate TICKS SEED FILE      writes a recording of a day in traffic
 //!     bench plain < FILE                  document 01's printing program, plain engine
 //!     bench lines < FILE                  the same by the second implementation
+//!     bench records < FILE                the program `records` by the second implementation
+//!     bench busiest WIDTH < FILE          the program `planner` by the second implementation
 //!     bench ratio PROGRAM FILE [RUNS]     user time of PROGRAM over that of `plain`
 //!     bench stack PROGRAM FILE            stack that PROGRAM and the library's calls use
 
 use std::fs::File;
 use std::hint::black_box;
-use std::io::{self, BufWriter, Write};
+use std::io::{self, BufWriter, Read, Write};
 use std::process::{Command, ExitCode, Stdio};
 use yoldrim_tests::days::{Day, TRAFFIC};
 #[cfg(library)]
@@ -22,6 +24,9 @@ use yoldrim_tests::reference::{
 };
 use yoldrim_tests::unit::Unit;
 
+#[path = "bench/busiest.rs"]
+mod busiest;
+
 type Block = [u8; BLOCK_BYTES];
 
 fn main() -> ExitCode {
@@ -32,6 +37,8 @@ fn main() -> ExitCode {
         ["generate", ticks, seed, file] => generate(ticks, seed, file),
         ["plain"] => filter(&mut Engine::default()),
         ["lines"] => filter(&mut Reference::default()),
+        ["records"] => records(),
+        ["busiest", width] => busiest_line(width),
         ["ratio", program, file] => ratio(program, file, "9"),
         ["ratio", program, file, runs] => ratio(program, file, runs),
         ["stack", program, file] => stack(program, file),
@@ -76,6 +83,29 @@ fn filter(unit: &mut impl Unit) -> io::Result<()> {
     let mut lines = BufWriter::new(io::stdout().lock());
     printing::print(unit, &mut io::stdin().lock(), &mut lines)?;
     lines.flush()
+}
+
+/// The message records of a recording. At a refused block it ends with status 1.
+fn records() -> io::Result<()> {
+    let mut out = BufWriter::new(io::stdout().lock());
+    let mut engine = Reference::default();
+    let refusal = printing::records(&mut engine, &mut io::stdin().lock(), &mut out)?;
+    out.flush()?;
+    match refusal {
+        None => Ok(()),
+        Some(number) => Err(io::Error::other(printing::refused(number))),
+    }
+}
+
+/// The line of the busiest stretch of these many ticks in a list of message records.
+fn busiest_line(width: &str) -> io::Result<()> {
+    let width = u32::try_from(number(width)?).map_err(io::Error::other)?;
+    let mut records = Vec::new();
+    io::stdin().lock().read_to_end(&mut records)?;
+    let mut first = 0;
+    let answer = Reference::default().busiest_stretch(&records, width, &mut first);
+    println!("{}", printing::busiest(answer, first));
+    Ok(())
 }
 
 /// One run of a program on a recording: its user time and its output.
@@ -255,7 +285,7 @@ fn time_calls() -> io::Result<()> {
     for ticks in LENGTHS {
         print_times(&mut units, ticks, &longest[..ticks / BLOCK_SAMPLES]);
     }
-    Ok(())
+    busiest::time_calls(&units)
 }
 
 #[cfg(library)]

@@ -17,9 +17,9 @@ use yoldrim_tests::random::Random;
 use yoldrim_tests::reference::*;
 use yoldrim_tests::scenes::{self, stopped, Scene};
 use yoldrim_tests::tally::{self, Call, Tally};
+use yoldrim_tests::{busiest, lent_block, plain, printing};
 #[cfg(library)]
 use yoldrim_tests::{ffi, layout, receiver};
-use yoldrim_tests::{lent_block, plain, printing};
 
 const DEFAULT_ROUNDS: u64 = 250;
 const SEED: u64 = 0x01;
@@ -94,6 +94,7 @@ fn compare(comparison: &mut Comparison, rounds: u64) -> ExitCode {
     flipped_bits(comparison);
     junk(comparison);
     lent_block::check(comparison);
+    busiest::check(comparison);
     ten_million(comparison);
     random_days(comparison, rounds);
     report(comparison)

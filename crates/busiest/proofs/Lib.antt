@@ -1,0 +1,12 @@
+pub mod Extremes
+pub mod InWindow
+pub mod References
+pub mod RecordsInTurn
+pub mod Growing
+pub mod Rising
+pub mod Faults
+pub mod Answer
+pub mod Counts
+pub mod InWordsHold
+pub mod ExamplesHold
+pub mod Promises

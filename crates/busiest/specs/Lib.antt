@@ -1,0 +1,4 @@
+pub mod Busiest
+pub mod InWords
+pub mod Examples
+pub mod Promise
