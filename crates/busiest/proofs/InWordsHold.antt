@@ -1,12 +1,11 @@
 -- The statements in other words hold.
 -- Assumes nothing.
 use Rattle.std.proofs.Common.{◌≡◌, ℕ, zero, suc, ◌+◌, ◌-◌, ◌*◌, ◌/◌, ◌%◌, ◌<◌, ◌≤◌, List, [], ◌∷◌, length, get_or, drop, map, refl, sym, ap, ◌∙◌, arith, drop-drop, ext_get_or, length-take, length-drop, add-one}
-use Rattle.std.specs.Prelude.{Bool, true, false, ◌||◌, cond, ltb, Option, None, Some}
+use Rattle.std.specs.Prelude.{Bool, true, false, cond, Option, None, Some}
 use Rattle.std.specs.List.Sorted.{IsNonDecreasing}
 use Rattle.std.specs.Simd.{first_chunks}
 use Rattle.std.proofs.lemmas.Bool.{cases_lt}
 use mathlib.Core.Logic.{◌⊎◌, inl, inr}
-use borrow.Author.Tests.{lt-ltb, le-ltb}
 use Rattle.wire.specs.Outcome.{check, first_fault, accepted, refused}
 use Rattle.wire.proofs.FirstFault.{outcome_accepted, outcome_refused, accepted_clear, refused_number, clear_first, append_clear, append_failing}
 use Rattle.message.specs.declared.Message.{Message}
@@ -18,6 +17,7 @@ use Rattle.busiest.proofs.InWindow.{none_in, one_more, is_in, is_apart}
 use Rattle.busiest.proofs.References.{records_length, references_length, reference_at}
 use Rattle.busiest.proofs.RecordsInTurn.{read_alone}
 use Rattle.busiest.proofs.Growing.{Growing, none_yet, grows, stays}
+use Rattle.busiest.proofs.Rising.{falls_at, never_falls}
 use Rattle.busiest.proofs.Faults.{fields_numbered, torn, by_records, no_width, too_wide, passes}
 use Rattle.busiest.proofs.Answer.{is_busiest, alone}
 
@@ -72,26 +72,6 @@ unfolding first_fault
 field_fails [] k l h = absurd (omega arith)
 field_fails (r ∷ records) zero l h = rw h refl
 field_fails (r ∷ records) (suc k) l h = before_14 (fails r) (first_fault (map message_fields_check records)) (field_fails records k (omega arith) h)
-
-or_last : (x y : Bool) → y ≡ true → ((x || false) || y) ≡ true
-or_last true y e = refl
-or_last false y e = e
-
-falls_at : (ticks : List ℕ) (k : ℕ) → k + 1 < length ticks → get_or ticks (k + 1) 0 < get_or ticks k 0 → falls ticks ≡ true
-unfolding falls
-falls_at [] k l h = absurd (omega arith)
-falls_at (t ∷ []) k l h = absurd (omega arith)
-falls_at (t ∷ r ∷ ticks) zero l h = rw (lt-ltb r t h) refl
-falls_at (t ∷ r ∷ ticks) (suc k) l h =
-    let f : suc k + 1 ≡ suc (k + 1) = omega arith in
-    or_last (ltb r t) (falls (r ∷ ticks)) (falls_at (r ∷ ticks) k (omega arith) (rw f at h))
-
-never_falls : (ticks : List ℕ) → IsNonDecreasing ticks → falls ticks ≡ false
-unfolding falls
-never_falls [] up = refl
-never_falls (t ∷ []) up = refl
-never_falls (t ∷ r ∷ ticks) up =
-    rw (le-ltb r t (up 0 1 0 (omega arith) (omega arith))) (never_falls (r ∷ ticks) (λ i j d g l. up (suc i) (suc j) d (omega arith) (omega arith)))
 
 -- ---- some number and tick are what CR 7 asks
 

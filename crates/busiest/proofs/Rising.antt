@@ -1,11 +1,11 @@
 -- Ticks of which none is below the one before it never fall, and the other way round.
 -- Assumes nothing.
-use Rattle.std.proofs.Common.{◌≡◌, ℕ, zero, suc, ◌+◌, ◌≤◌, List, [], ◌∷◌, length, refl, arith}
+use Rattle.std.proofs.Common.{◌≡◌, ℕ, zero, suc, ◌+◌, ◌<◌, ◌≤◌, List, [], ◌∷◌, length, get_or, refl, arith}
 use Rattle.std.specs.Prelude.{Bool, true, false, ◌||◌, ltb}
 use Rattle.std.specs.List.{AllAdjacentBelow}
 use Rattle.std.specs.List.Sorted.{IsNonDecreasing}
 use Rattle.std.proofs.lemmas.List.Sorted.{IsNonDecreasingBy-from_all_adjacent}
-use borrow.Author.Tests.{ltb-false}
+use borrow.Author.Tests.{lt-ltb, le-ltb, ltb-false}
 use Rattle.busiest.specs.Busiest.{falls}
 
 both_false : (x y : Bool) → ((x || false) || y) ≡ false → (x ≡ false) × (y ≡ false)
@@ -24,3 +24,23 @@ neighbours (t ∷ r ∷ ticks) e (suc k) d l =
 
 pub rising : (ticks : List ℕ) → falls ticks ≡ false → IsNonDecreasing ticks
 rising ticks e = IsNonDecreasingBy-from_all_adjacent (λ x. x) ticks (neighbours ticks e)
+
+or_last : (x y : Bool) → y ≡ true → ((x || false) || y) ≡ true
+or_last true y e = refl
+or_last false y e = e
+
+pub falls_at : (ticks : List ℕ) (k : ℕ) → k + 1 < length ticks → get_or ticks (k + 1) 0 < get_or ticks k 0 → falls ticks ≡ true
+unfolding falls
+falls_at [] k l h = absurd (omega arith)
+falls_at (t ∷ []) k l h = absurd (omega arith)
+falls_at (t ∷ r ∷ ticks) zero l h = rw (lt-ltb r t h) refl
+falls_at (t ∷ r ∷ ticks) (suc k) l h =
+    let f : suc k + 1 ≡ suc (k + 1) = omega arith in
+    or_last (ltb r t) (falls (r ∷ ticks)) (falls_at (r ∷ ticks) k (omega arith) (rw f at h))
+
+pub never_falls : (ticks : List ℕ) → IsNonDecreasing ticks → falls ticks ≡ false
+unfolding falls
+never_falls [] up = refl
+never_falls (t ∷ []) up = refl
+never_falls (t ∷ r ∷ ticks) up =
+    rw (le-ltb r t (up 0 1 0 (omega arith) (omega arith))) (never_falls (r ∷ ticks) (λ i j d g l. up (suc i) (suc j) d (omega arith) (omega arith)))
