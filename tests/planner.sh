@@ -7,14 +7,14 @@ second=tests/target/release/bench
 made=$(mktemp -d)
 trap 'rm -rf "$made"' EXIT
 
-# Compares the records of a recording: the bytes, the status and what is said of a refused block.
+# Compares the records of a recording: the bytes, the status and what is reported of a refused block.
 records() {
     local status=0 expected=0
-    target/bin/records < "$1" > "$made/records.bin" 2> "$made/said" || status=$?
+    target/bin/records < "$1" > "$made/records.bin" 2> "$made/errors" || status=$?
     "$second" records < "$1" > "$made/expected.bin" 2> "$made/expected" || expected=$?
     cmp "$made/records.bin" "$made/expected.bin"
     sed -i 's/^bench: //' "$made/expected"
-    diff "$made/said" "$made/expected"
+    diff "$made/errors" "$made/expected"
     if [ "$status" != "$expected" ]; then
         echo "$1: the program records ended with status $status, not $expected"
         exit 1
@@ -57,13 +57,19 @@ for list in none short torn falls damaged; do
 done
 echo "no records, torn, falling and damaged lists: as the second implementation"
 
-# What is no width is an error of use: nothing is printed.
-for width in abc -1 "" 4294967296; do
-    status=0
-    target/bin/planner "$width" < "$made/day" > "$made/line" 2> "$made/said" || status=$?
-    if [ "$status" != 2 ] || [ -s "$made/line" ] || ! grep -q '^usage: ' "$made/said"; then
-        echo "the planner took '$width' for a width"
+# Anything but one argument that is a width is an error of use: nothing is printed.
+misused() {
+    local status=0
+    target/bin/planner "$@" < "$made/day" > "$made/line" 2> "$made/errors" || status=$?
+    if [ "$status" != 2 ] || [ -s "$made/line" ] || ! grep -q '^usage: ' "$made/errors"; then
+        echo "the planner took '$*' for a width"
         exit 1
     fi
+}
+
+for width in abc -1 "" 4294967296; do
+    misused "$width"
 done
-echo "no width: told so, and nothing printed"
+misused
+misused 600 600
+echo "no width: an error of use, and nothing printed"

@@ -1,8 +1,8 @@
 -- The checks of records in turn, as the loop over them goes.
 -- Assumes nothing.
-use Rattle.std.proofs.Common.{◌≡◌, ℕ, ◌+◌, ◌<◌, ◌≤◌, List, [], ◌∷◌, ◌++◌, length, get_or, drop, take, map, sym, refl, ap, ◌∙◌, arith, add-one, drop-cons, drop_of_length-le}
+use Rattle.std.proofs.Common.{◌≡◌, ℕ, ◌+◌, ◌<◌, ◌≤◌, List, [], ◌∷◌, ◌++◌, length, get_or, drop, map, sym, refl, ap, ◌∙◌, arith, add-one, drop-cons, drop_of_length-le}
 use Rattle.std.specs.Prelude.{Bool, true, false, ◌||◌, cond, ltb}
-use Rattle.std.specs.List.{list_any}
+use Rattle.std.proofs.Math.Bool.{or_assoc}
 use borrow.Author.Tests.{eq-eqb, le-ltb}
 use Rattle.wire.specs.declared.Refusal.{Refusal}
 use Rattle.wire.specs.Outcome.{Check, check, first_fault, accepted, refused, outcome, number_of}
@@ -21,24 +21,19 @@ unfolding message_read first_fault
 read_alone bytes e = rw (eq-eqb _ _ e) refl
 
 -- no tick lies below 0
-none_below_0 : (ticks : List ℕ) → list_any (λ r. ltb r 0) (take 1 ticks) ≡ false
-none_below_0 [] = refl
-none_below_0 (t ∷ ticks) = rw (le-ltb t 0 (omega arith)) refl
+from_0 : (ticks : List ℕ) → falls (0 ∷ ticks) ≡ falls ticks
+unfolding falls
+from_0 [] = refl
+from_0 (t ∷ ticks) = rw (le-ltb t 0 (omega arith)) refl
 
 pub all_ahead : (records : List (List ℕ)) → first_fault (record_checks records) ≡ first_fault (ahead false 0 records)
-unfolding record_checks falls
-all_ahead records = rw (none_below_0 (references_of records)) refl
-
--- a tick more
-more_falls : (f x y : Bool) → (f || ((x || false) || y)) ≡ ((f || x) || y)
-more_falls true x y = refl
-more_falls false true y = refl
-more_falls false false y = refl
+unfolding record_checks
+all_ahead records = rw (from_0 (references_of records)) refl
 
 module _ (f : Bool) (b : ℕ) (bytes : List ℕ) (rest : List (List ℕ)) where
   tick_more : (f || falls (b ∷ references_of (bytes ∷ rest))) ≡ ((f || ltb (reference_of bytes) b) || falls (reference_of bytes ∷ references_of rest))
   unfolding falls references_of
-  tick_more = more_falls f (ltb (reference_of bytes) b) (falls (reference_of bytes ∷ references_of rest))
+  tick_more = sym (or_assoc f (ltb (reference_of bytes) b) (falls (reference_of bytes ∷ references_of rest)))
 
   module _ (size : length bytes ≡ 32) where
     refused_ahead : (r : Refusal) → refused (number_of r) ≡ message_read bytes → number_of r ≡ first_fault (ahead f b (bytes ∷ rest))

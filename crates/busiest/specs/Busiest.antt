@@ -1,7 +1,7 @@
 -- The busiest stretch of a list of message records, after document 02, CR 7.
 -- Assumes nothing.
-use Rattle.std.specs.Prelude.{ℕ, ◌+◌, ◌/◌, ◌%◌, Bool, false, not, ◌&&◌, ◌||◌, List, [], ◌∷◌, ◌++◌, ltb, leb, eqb, length, take, map, max, min, fold, filter, count_by, Option}
-use Rattle.std.specs.List.{list_any, reduce}
+use Rattle.std.specs.Prelude.{ℕ, ◌+◌, ◌/◌, ◌%◌, Bool, false, not, ◌&&◌, ◌||◌, List, [], ◌∷◌, ◌++◌, ltb, leb, eqb, length, map, max, min, fold, filter, count_by, Option}
+use Rattle.std.specs.List.{reduce}
 use Rattle.std.specs.Simd.{first_chunks}
 use Rattle.wire.specs.Outcome.{Check, check, first_fault, Outcome, outcome}
 use Rattle.message.specs.Message.{message_of, message_fields_check}
@@ -35,10 +35,11 @@ earliest w ticks = reduce min (filter (λ t. eqb (messages_in w ticks t) (larges
 unfoldable pub busiest_of : ℕ → List ℕ → Busiest
 busiest_of w ticks = record { messages = largest w ticks; first = earliest w ticks }
 
--- "a reference tick below the one before": after each tick, the next one
+-- "a reference tick below the one before"
 unfoldable pub falls : List ℕ → Bool
 falls [] = false
-falls (t ∷ ticks) = list_any (λ r. ltb r t) (take 1 ticks) || falls ticks
+falls (t ∷ []) = false
+falls (t ∷ r ∷ ticks) = ltb r t || falls (r ∷ ticks)
 
 -- "with 14 a record, then with 35 a reference tick below the one before"
 unfoldable pub record_checks : List (List ℕ) → List Check

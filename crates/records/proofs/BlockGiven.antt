@@ -89,7 +89,7 @@ module _ (s : State) (block out last : List ℕ) (next : State) (r : Answer) (si
   -- ---- a turn of the loop: behind the records so far stand those of the blocks that are left
 
   module _ (rest behind so_far all : List ℕ) (number : ℕ) (parts : rest ≡ block ++ behind) (long : length block ≡ min 512 (length rest)) (some : 0 < length rest)
-      (whole : so_far ++ records_from s (blocks_in rest) ≡ all) (told : refusal_from s (blocks_in rest) ≡ number) where
+      (whole : so_far ++ records_from s (blocks_in rest) ≡ all) (reported : refusal_from s (blocks_in rest) ≡ number) where
     blocks : blocks_in rest ≡ block ∷ blocks_in behind
     blocks = next_block rest block behind parts long some
 
@@ -97,17 +97,17 @@ module _ (s : State) (block out last : List ℕ) (next : State) (r : Answer) (si
         → ((so_far ++ take (32 * n) last) ++ records_from next (blocks_in behind) ≡ all) × (refusal_from next (blocks_in behind) ≡ number)
     given_turn n e =
         let g = given (blocks_in behind) n e in
-        (append_assoc so_far _ _ ∙ rw (← g.0, ← blocks) whole, rw (← g.1, ← blocks) told)
+        (append_assoc so_far _ _ ∙ rw (← g.0, ← blocks) whole, rw (← g.1, ← blocks) reported)
 
     pub refused_turn : (f : Refusal) → r ≡ Err f → (so_far ≡ all) × (number_of f ≡ number)
     refused_turn f e =
         let g = refused_block (blocks_in behind) f e in
-        (rw (blocks, g.0, append-nil) at whole, rw (blocks, g.1) at told)
+        (rw (blocks, g.0, append-nil) at whole, rw (blocks, g.1) at reported)
 
 -- no block is left
 pub ends : (s : State) (rest so_far all : List ℕ) (number : ℕ) → length rest ≡ 0
     → so_far ++ records_from s (blocks_in rest) ≡ all → refusal_from s (blocks_in rest) ≡ number → (so_far ≡ all) × (0 ≡ number)
 unfolding records_from refusal_from
-ends s rest so_far all number none whole told =
+ends s rest so_far all number none whole reported =
     let e = no_block rest none in
-    (rw (e, append-nil) at whole, rw e at told)
+    (rw (e, append-nil) at whole, rw e at reported)

@@ -1,4 +1,4 @@
--- The records that the program gives of its input, and the refusal that it tells: the block call on one block after the other.
+-- The records that the program gives of its input, and the refusal that it reports: the block call on one block after the other.
 -- Assumes nothing.
 use Rattle.std.specs.Prelude.{ℕ, ◌+◌, ◌/◌, ◌≡◌, not, cond, List, [], ◌∷◌, ◌++◌, eqb, length, Option, None, Some}
 use Rattle.std.specs.Simd.{first_chunks}
@@ -38,11 +38,12 @@ refusal_from s [] = 0
 refusal_from s (b ∷ bs) =
     cond (eqb (fault_on s b) 0) (refusal_from (state_after unit_settings s (samples_on b)) bs) (fault_on s b)
 
-abbrev pub number_told : Option Refusal → ℕ
-number_told None = 0
-number_told (Some r) = number_of r
+-- 0 where no block is refused
+abbrev pub number_or_zero : Option Refusal → ℕ
+number_or_zero None = 0
+number_or_zero (Some r) = number_of r
 
 -- what a fresh engine gives of an input stands behind the records from before
 pub record Gives (input before : List ℕ) (refusal : Option Refusal) (last : List ℕ) : Type 0 where
   pub records : last ≡ before ++ records_from fresh (blocks_in input)
-  pub refused : number_told refusal ≡ refusal_from fresh (blocks_in input)
+  pub refused : number_or_zero refusal ≡ refusal_from fresh (blocks_in input)
